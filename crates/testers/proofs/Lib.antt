@@ -1,0 +1,10 @@
+pub mod Ring
+pub mod Dots
+pub mod Leaves
+pub mod Plans
+pub mod Halves
+pub mod Products
+pub mod Extremes
+pub mod RowLeaves
+pub mod Middles
+pub mod Lowers

@@ -1,0 +1,4 @@
+pub mod Leaf
+pub mod Tester
+pub mod Halving
+pub mod Told
