@@ -1,0 +1,12 @@
+pub mod Steps
+pub mod Searches
+pub mod Fits
+pub mod Repeats
+pub mod Records
+pub mod Written
+pub mod Entries
+pub mod Maps
+pub mod Marks
+pub mod Walks
+pub mod Runs
+pub mod Answered
