@@ -1,0 +1,4 @@
+pub mod Words
+pub mod Desk
+pub mod Answer
+pub mod Line
