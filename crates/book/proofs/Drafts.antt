@@ -1,11 +1,11 @@
 -- What is not refused may be built.
-use Rattle.std.proofs.Common.{◌≡◌, ℕ, suc, ◌+◌, Bool, true, false, cond, not, ◌&&◌, ◌||◌, eqb, ltb, leb, List, [], ◌∷◌, ◌++◌, length, ℤ, pos, Some, None, Ok, Err, Decides, Option, sym, refl, ap, ◌∙◌, subst, arith}
+use Rattle.std.proofs.Common.{◌≡◌, ℕ, suc, ◌+◌, Bool, true, false, cond, not, ◌&&◌, ◌||◌, eqb, ltb, leb, List, [], ◌∷◌, ◌++◌, length, ℤ, pos, Some, None, Ok, Err, Decides, Option, int_eq, sym, refl, ap, ◌∙◌, subst, arith}
 use mathlib.Core.Bool.{false≢true}
 use lib.Signed.{lt_z}
 use Rattle.std.proofs.lemmas.Bool.{or_parts}
-use Rattle.std.proofs.lemmas.Bool.Decides.{nat_tests, same_from_decides, Decides-eqb}
+use Rattle.std.proofs.lemmas.Bool.Decides.{nat_tests, same_from_decides, Decides-int_eq}
 use Rattle.std.proofs.lemmas.Slice.Eq.{slice_eq-Decides}
-use Rattle.std.specs.Cmp.Lexicographic.{Matches}
+use Rattle.std.specs.Cmp.Lexicographic.{pointwise}
 use Rattle.problems.specs.declared.quantity.Span.{Span}
 use Rattle.problems.specs.declared.quantity.RowEnds.{RowEnds}
 use Rattle.problems.specs.declared.refusal.Refusal.TheVariants.{Length, Range, Cross, Repeat, Full}
@@ -93,8 +93,8 @@ same_decides : (xs ys : List ℤ) → Decides (same_row xs ys) (xs ≡ ys)
 same_decides xs ys = (same_true xs ys, λ e. subst (λ zs. same_row xs zs ≡ true) e (same_itself xs))
 
 -- what `==` says of two rows
-pub same_is : (xs ys zs : List ℤ) (r : Bool) → Matches (λ (a b : ℤ) (t : Bool). Decides t (a ≡ b)) xs ys r → ys ≡ zs → r ≡ same_row xs zs
-same_is xs ys zs r h e = same_from_decides r (same_row xs ys) (slice_eq-Decides Decides-eqb xs ys r h) (same_decides xs ys) ∙ ap (same_row xs) e
+pub same_is : (xs ys zs : List ℤ) (r : Bool) → r ≡ pointwise int_eq xs ys → ys ≡ zs → r ≡ same_row xs zs
+same_is xs ys zs r h e = same_from_decides r (same_row xs ys) (slice_eq-Decides Decides-int_eq xs ys r h) (same_decides xs ys) ∙ ap (same_row xs) e
 
 -- ---- adding a row
 

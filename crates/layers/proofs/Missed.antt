@@ -1,14 +1,13 @@
 -- The rows that their divisors miss, one row at a time.
-use Rattle.std.proofs.Common.{◌≡◌, ℕ, zero, suc, ◌+◌, ◌<◌, ◌≤◌, Bool, true, false, cond, ◌&&◌, leb, List, [], ◌∷◌, length, get_or, drop, ℤ, ◌-ℤ◌, nat_abs, Some, None, Option, sym, refl, ap, ◌∙◌, add-one, arith, w64, to_z, of_z}
+use Rattle.std.proofs.Common.{◌≡◌, ℕ, zero, suc, ◌+◌, ◌<◌, ◌≤◌, Bool, true, false, cond, ◌&&◌, List, [], ◌∷◌, length, get_or, drop, ℤ, ◌-ℤ◌, nat_abs, Some, None, Option, sym, refl, ap, ◌∙◌, add-one, arith, w64, to_z, of_z}
 use borrow.Author.Differences.{ints}
 use Rattle.std.proofs.lemmas.List.{drop_more, drop_all}
 use Rattle.problems.specs.declared.quantity.Span.{Span}
 use Rattle.problems.specs.declared.quantity.RowEnds.{RowEnds}
-use Rattle.problems.specs.Whole.{within}
 use Rattle.problems.specs.Box.{Box, no_ends}
 use Rattle.problems.specs.Ranges.{in_reach, ends_proper, row_ends_proper}
 use Rattle.problems.proofs.Tests.{and_true, leb_true, leb_is}
-use Rattle.testers.specs.Leaf.{Leaf, fixed_part, no_multiple, misses, row_misses}
+use Rattle.testers.specs.Leaf.{fixed_part, no_multiple, misses, row_misses}
 use Rattle.testers.specs.Leaf.Leaf.{divisor}
 use Rattle.testers.proofs.Products.{back}
 use Rattle.layers.specs.Divisor.{free_gcd, missing}

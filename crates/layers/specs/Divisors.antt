@@ -1,5 +1,5 @@
 -- The divisor layer keeps the laws if the tester below does.
-use Rattle.std.specs.Prelude.{◌≡◌, ℕ, suc, ◌+◌, ◌%◌, ◌<◌, ◌≤◌, true, false, ◌&&◌, ◌⊎◌, List, [], ◌∷◌, length, get_or, ℤ, Some, None, Option, nat_le, slice_index_or, unsigned_abs, refl}
+use Rattle.std.specs.Prelude.{◌≡◌, ℕ, suc, ◌+◌, ◌%◌, ◌<◌, true, ◌&&◌, ◌⊎◌, List, [], ◌∷◌, length, get_or, ℤ, Some, None, Option, nat_le, slice_index_or, unsigned_abs, refl}
 use Rattle.std.proofs.Common.{sym, ◌∙◌, ap, subst, inl, inr, ⊎_elim, arith}
 use Rattle.std.proofs.lemmas.Bool.{false≢true}
 use Rattle.std.proofs.Math.Nat.{mul-mod_right}
@@ -14,7 +14,7 @@ use Rattle.testers.specs.Leaf.Leaf.{divisor}
 use Rattle.testers.specs.Tester.{Answer, Meaning, LawfulAnswer, KeepsLaws}
 use Rattle.testers.specs.Halving.{unless}
 use Rattle.testers.proofs.Gcds.{gcd_is_greatest, divides_through}
-use Rattle.layers.specs.Divisor.{free_gcd, missing, missed_row, divisor_layer}
+use Rattle.layers.specs.Divisor.{free_gcd, missing, divisor_layer}
 use Rattle.layers.specs.Frees.{free_small}
 
 -- ---- the divisor divides

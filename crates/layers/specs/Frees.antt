@@ -4,8 +4,7 @@ use Rattle.std.proofs.Common.{sym, ◌∙◌, ap, arith}
 use Rattle.std.proofs.lemmas.List.{drop_more, drop_all}
 use Rattle.problems.specs.declared.quantity.Span.{Span}
 use Rattle.problems.specs.Box.{nowhere}
-use Rattle.problems.specs.Whole.{all_within}
-use Rattle.problems.proofs.Propers.{Coefs, coefs_from}
+use Rattle.problems.proofs.Propers.{Coefs}
 use Rattle.problems.proofs.Tests.{by_cond}
 use Rattle.testers.specs.Gcd.{gcd}
 use Rattle.testers.specs.Leaf.{fixed, fixed_part}

@@ -4,5 +4,7 @@
 //! |---|---|
 //! | `divisor` | the divisor layer over any tester |
 //! | `pile` | as many layers as are asked for, up to four |
+#![tactic(auto)]
+
 pub mod divisor;
 pub mod pile;

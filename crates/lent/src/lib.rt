@@ -4,5 +4,7 @@
 //! |---|---|
 //! | `entry` | what a stack can hold: an entry names its blank |
 //! | `stack` | the stack |
+#![tactic(auto)]
+
 pub mod entry;
 pub mod stack;

@@ -9,10 +9,9 @@ use Rattle.problems.specs.Box.{Box}
 use Rattle.problems.specs.declared.problem.Problem.{Problem}
 use Rattle.problems.specs.View.{box_of, rows_of}
 use Rattle.problems.proofs.Views.{proper}
-use Rattle.problems.proofs.Tests.{and_true, both_true, leb_is, leb_true}
+use Rattle.problems.proofs.Tests.{and_true, both_true, leb_is}
 use Rattle.problems.proofs.Propers.{span_from}
 use Rattle.testers.specs.Leaf.Leaf.{sum}
-use Rattle.testers.specs.Tester.{Answer}
 use Rattle.testers.specs.Tester.Answer.{empty}
 use Rattle.testers.specs.Halving.{lowers}
 use Rattle.testers.proofs.Lowers.{length_lowers}

@@ -1,5 +1,5 @@
 -- The first k numbers of a line, written as a part.
-use Rattle.std.proofs.Common.{◌≡◌, ℕ, zero, suc, ◌+◌, ◌-◌, ◌<◌, ◌≤◌, Bool, true, false, cond, ◌&&◌, eqb, ltb, List, [], ◌∷◌, ◌++◌, map, length, get_or, take, drop, set, ℤ, pos, negsuc, nat_abs, sym, refl, ap, ◌∙◌, subst, le_of_suc-le-suc, not-suc-le-zero, add-one, arith, w64, SFits, to_z, of_z}
+use Rattle.std.proofs.Common.{◌≡◌, ℕ, zero, suc, ◌+◌, ◌-◌, ◌<◌, ◌≤◌, Bool, true, false, cond, ◌&&◌, eqb, ltb, List, [], ◌∷◌, ◌++◌, map, length, get_or, take, drop, set, ℤ, pos, negsuc, nat_abs, sym, refl, ap, ◌∙◌, subst, le_of_suc-le-suc, not-suc-le-zero, add-one, arith, w64, to_z, of_z}
 use lib.Signed.{lt_z}
 use Rattle.std.proofs.lemmas.Bool.Decides.{nat_tests}
 use Rattle.std.proofs.lemmas.List.{take_at, length-append, length-drop, length-take-le, get_or-take, drop_more, take_more_set, append_assoc, append-nil, map-append, take_all, drop_all, drop-set-lt}
@@ -12,7 +12,7 @@ use Rattle.tableau.specs.Lines.{turned, cleared, substituted}
 use Rattle.tableau.specs.Tableau.{exchanged, small_lines}
 use Rattle.pivot.specs.Shapes.{seen, Shaped, AllShaped, LineOk, LinesOk}
 use Rattle.testers.proofs.Products.{back}
-use Rattle.pivot.proofs.Walks.{negate_within, within_at}
+use Rattle.pivot.proofs.Walks.{negate_within}
 
 pub front : (k : ℕ) (r : List ℤ) → take (k - 0) r ≡ take k r
 front k r = let e : k - 0 ≡ k = omega arith in ap (λ n. take n r) e

@@ -1,21 +1,18 @@
 -- The two choices of Bland's rule, step by step.
-use Rattle.std.proofs.Common.{◌≡◌, ℕ, zero, suc, ◌+◌, ◌-◌, ◌*◌, ◌<◌, ◌≤◌, Bool, true, false, cond, not, ◌&&◌, eqb, List, [], ◌∷◌, map, length, get_or, take, drop, ℤ, pos, negsuc, ◌-ℤ◌, neg_ℤ, nat_abs, Some, None, Option, sym, refl, ap, ◌∙◌, subst, le_of_suc-le-suc, not-suc-le-zero, add-one, arith, w64, SFits, to_z, of_z}
-use borrow.Author.Differences.{ints}
+use Rattle.std.proofs.Common.{◌≡◌, ℕ, zero, suc, ◌+◌, ◌-◌, ◌<◌, ◌≤◌, Bool, true, false, cond, not, ◌&&◌, eqb, List, [], ◌∷◌, map, length, get_or, take, drop, ℤ, pos, ◌-ℤ◌, neg_ℤ, nat_abs, Some, None, Option, sym, refl, ap, ◌∙◌, subst, le_of_suc-le-suc, not-suc-le-zero, add-one, arith, w64, SFits, to_z, of_z}
 use Rattle.std.proofs.lemmas.Bool.Decides.{nat_tests}
 use Rattle.std.proofs.lemmas.Int.{to_z-of_z}
-use Rattle.std.proofs.lemmas.List.{get_or-take, drop_more, drop-map, drop_all}
+use Rattle.std.proofs.lemmas.List.{get_or-take}
 use Rattle.problems.specs.declared.quantity.RowEnds.{RowEnds}
 use Rattle.problems.specs.declared.quantity.Side.{Side}
 use Rattle.problems.specs.Rows.{dot}
 use Rattle.problems.specs.Box.{no_ends}
 use Rattle.problems.specs.Ranges.{in_reach}
 use Rattle.problems.proofs.Tests.{leb_true}
-use Rattle.problems.specs.Whole.{all_within}
 use Rattle.tableau.specs.declared.line.Line.{Line}
-use Rattle.tableau.specs.declared.run.Violation.{Violation}
 use Rattle.tableau.specs.Choices.{violated, violation, earlier, outside, suitable, entering}
 use Rattle.pivot.specs.Shapes.{seen, LineOk, LinesOk, EndsOk}
-use Rattle.pivot.proofs.Casts.{small_neg, neg_back, neg_fits}
+use Rattle.pivot.proofs.Casts.{neg_back}
 use Rattle.pivot.proofs.Walks.{within_at}
 
 -- a number of a line is small

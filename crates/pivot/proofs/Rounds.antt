@@ -1,5 +1,5 @@
 -- The run, round by round.
-use Rattle.std.proofs.Common.{◌≡◌, ℕ, zero, suc, ◌+◌, ◌-◌, ◌<◌, ◌≤◌, Bool, true, false, cond, ◌&&◌, ltb, List, [], ◌∷◌, map, length, get_or, set, ℤ, pos, nat_abs, Some, None, Option, sym, refl, ap, ◌∙◌, subst, not-suc-le-zero, arith}
+use Rattle.std.proofs.Common.{◌≡◌, ℕ, zero, suc, ◌+◌, ◌-◌, ◌<◌, ◌≤◌, Bool, true, false, cond, ltb, List, [], ◌∷◌, map, length, get_or, set, ℤ, nat_abs, Some, None, Option, sym, ap, ◌∙◌, subst, not-suc-le-zero, arith}
 use Rattle.std.proofs.lemmas.List.{get_or-map}
 use Rattle.problems.specs.declared.quantity.RowEnds.{RowEnds}
 use Rattle.problems.specs.declared.quantity.Side.{Side}
@@ -10,10 +10,9 @@ use Rattle.problems.specs.Whole.{all_within}
 use Rattle.problems.proofs.Tests.{by_cond, and_true, both_true, leb_is, leb_true}
 use Rattle.tableau.specs.declared.line.Line.{Line}
 use Rattle.tableau.specs.declared.run.Violation.{Violation}
-use Rattle.tableau.specs.declared.run.Step.{Step}
 use Rattle.tableau.specs.declared.run.Step.TheVariants.{Standing, Stuck, Turn}
 use Rattle.tableau.specs.declared.run.Stop.{Stop}
-use Rattle.tableau.specs.declared.run.Stop.TheVariants.{Stands, Fails, GaveWay}
+use Rattle.tableau.specs.declared.run.Stop.TheVariants.{Stands, Fails}
 use Rattle.tableau.specs.Choices.{found, violation, earlier, outside, entering}
 use Rattle.tableau.specs.Lines.{turned, blank}
 use Rattle.tableau.specs.Tableau.{exchanged, small_lines, or_zero, end_value, Tableau, moved, pivoted, entered, chosen, look, Run, go, gave_way, if_small, run}

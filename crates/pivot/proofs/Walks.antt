@@ -1,9 +1,8 @@
 -- What a loop over rows keeps: what it wrote, and what is left.
-use Rattle.std.proofs.Common.{◌≡◌, ℕ, zero, suc, ◌+◌, ◌*◌, ◌<◌, ◌≤◌, Bool, true, false, ◌&&◌, leb, List, [], ◌∷◌, ◌++◌, length, get_or, take, drop, set, ℤ, pos, negsuc, ◌+ℤ◌, ◌*ℤ◌, nat_abs, sym, refl, ap, ◌∙◌, subst, add-one, arith}
+use Rattle.std.proofs.Common.{◌≡◌, ℕ, zero, suc, ◌+◌, ◌<◌, ◌≤◌, true, ◌&&◌, leb, List, [], ◌∷◌, ◌++◌, length, get_or, take, drop, set, ℤ, pos, negsuc, ◌+ℤ◌, ◌*ℤ◌, nat_abs, refl, ap, ◌∙◌, subst, add-one, arith}
 use borrow.Author.Differences.{ints}
 use Rattle.std.proofs.lemmas.List.{take_more_set, append_assoc, append-nil, drop_more, drop_all, take_all, drop-set-lt}
 use Rattle.std.specs.Int.{int_div_euclid}
-use Rattle.problems.specs.Whole.{within}
 use Rattle.problems.specs.Rows.{dot, add, scale}
 use Rattle.problems.specs.Whole.{all_within}
 use Rattle.problems.proofs.Tests.{and_true, both_true, leb_true, leb_is}

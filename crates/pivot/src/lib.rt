@@ -1,3 +1,5 @@
+#![tactic(auto)]
+
 mod choose;
 mod exchange;
 mod numbers;

@@ -1,5 +1,5 @@
 -- A split of a variable in the code's table is the split of the list.
-use Rattle.std.proofs.Common.{◌≡◌, ℕ, zero, suc, ◌+◌, ◌<◌, ◌≤◌, Bool, true, false, ◌&&◌, List, [], ◌∷◌, length, get_or, take, set, ℤ, pos, ◌+ℤ◌, ◌<ℤ◌, sym, refl, ap, ◌∙◌, le_of_suc-le-suc, not-suc-le-zero, arith, length-set}
+use Rattle.std.proofs.Common.{◌≡◌, ℕ, zero, suc, ◌<◌, ◌≤◌, Bool, true, false, ◌&&◌, List, [], ◌∷◌, length, get_or, take, set, ℤ, pos, ◌+ℤ◌, ◌<ℤ◌, sym, refl, ap, ◌∙◌, le_of_suc-le-suc, not-suc-le-zero, arith, length-set}
 use lib.Signed.{le_z, lt_z}
 use lib.Seq.{take-set-lt}
 use Rattle.std.proofs.lemmas.List.{get_or-take}
@@ -69,8 +69,8 @@ cut_high t v k s h e =
 
 -- a table with one span changed keeps its facts, if what it holds is proper
 pub facts_kept : (t : Vars) (v : ℕ) (s : Span) (ss : List Span) → take t.n (set t.spans v s) ≡ ss → spans_proper ss ≡ true
-    → (t.n ≤ 12) × ((length (set t.spans v s) ≡ 12) × ((spans_proper (take t.n (set t.spans v s)) ≡ true) × Unit {0}))
-facts_kept t v s ss e p = (t.few, (simp length-set t.long, (ap spans_proper e ∙ p, tt)))
+    → (t.n ≤ 12) × (length (set t.spans v s) ≡ 12) × (spans_proper (take t.n (set t.spans v s)) ≡ true)
+facts_kept t v s ss e p = (t.few, simp length-set t.long, ap spans_proper e ∙ p)
 
 -- k lies below the upper end
 pub under : (t : Vars) (v : ℕ) (k : ℤ) → splits v k (vars_in t) ≡ true → k <ℤ (get_or t.spans v nowhere).upper

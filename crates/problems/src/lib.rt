@@ -7,6 +7,8 @@
 //! | `vars`, `ends`, `problem` | the tables of a problem, each with what its type carries |
 //! | `build`, `read`, `split`, `blank` | making a problem, reading it, its halves, and a table of none |
 //! | `refusal` | why a call is refused |
+#![tactic(auto)]
+
 pub mod blank;
 pub mod build;
 pub mod ends;

@@ -1,5 +1,5 @@
 -- The reply is the one asked for, it is truthful, and the buffers are left as said.
-use Rattle.std.proofs.Common.{◌≡◌, ℕ, ◌+◌, ◌-◌, ◌*◌, ◌<◌, ◌≤◌, true, false, leb, List, ◌++◌, length, take, drop, replicate, ℤ, pos, nat_abs, Some, None, Ok, Err, Option, sym, refl, ap, ◌∙◌, ⊎_elim, append_assoc, arith, take-append-drop, drop_of_length-le}
+use Rattle.std.proofs.Common.{◌≡◌, ℕ, ◌+◌, ◌-◌, ◌*◌, ◌<◌, ◌≤◌, false, leb, List, ◌++◌, length, take, drop, replicate, ℤ, pos, nat_abs, Some, None, Ok, Err, Option, sym, refl, ap, ◌∙◌, ⊎_elim, append_assoc, arith, take-append-drop, drop_of_length-le}
 use Rattle.std.proofs.lemmas.List.{length-take-le, replicate-append-replicate, take_all}
 use Rattle.std.proofs.lemmas.Bool.{cases_lt}
 use Rattle.problems.specs.declared.problem.Problem.{Problem}

@@ -1,5 +1,5 @@
 -- What a search writes fits: at most 100 bytes and one open split for each box.
-use Rattle.std.proofs.Common.{◌≡◌, ℕ, suc, ◌+◌, ◌*◌, ◌≤◌, true, eqb, List, [], ◌∷◌, ◌++◌, length, ℤ, arith, length-append}
+use Rattle.std.proofs.Common.{◌≡◌, ℕ, suc, ◌*◌, ◌≤◌, true, eqb, List, [], ◌∷◌, ◌++◌, length, ℤ, arith, length-append}
 use Rattle.problems.proofs.Tests.{by_cond, and_true, eqb_true}
 use Rattle.problems.specs.Whole.{is_zero, all_within}
 use Rattle.problems.specs.Box.{Box, Proper}

@@ -7,6 +7,8 @@
 //! | `open_split` | the entries of a path, a stack in the caller's memory |
 //! | `run`, `step`, `walk` | the walk: from its first box to its verdict, one box, where it stands |
 //! | `record`, `note` | writing entries, and noting the ends that leaves use |
+#![tactic(auto)]
+
 pub mod found;
 mod note;
 pub mod open_split;

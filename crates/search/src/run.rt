@@ -52,12 +52,12 @@ pub(crate) fn run<T: Tester>(
     requires room { 100 * budget ≤ length bytes.old }
     requires place { budget ≤ length stack.old.slots.now }
     requires none { stack.old.len ≡ 0 }
-    ensures answer { found_of root.now.ends.vars.n bytes.new result ≡ search_box (meaning tester.old) (rows_of root.now) (box_of root.now) budget }
+    ensures answer { found_of root.now.ends.vars.n bytes.new result ≡ search_box (T.meaning tester.old) (rows_of root.now) (box_of root.now) budget }
     ensures room { result.bytes ≤ 100 * budget }
     ensures kept { drop result.bytes bytes.new ≡ drop result.bytes bytes.old }
     ensures blanks { Blanked stack.old.slots.now result.deepest stack.new.slots.now stack.new.len }
     ensures named { stack.new.slots.ghost_name ≡ stack.old.slots.ghost_name }
-    ensures same { meaning tester.new ≡ meaning tester.old }
+    ensures same { T.meaning tester.new ≡ T.meaning tester.old }
 {
     let mut walk = begin(root);
     while walk.boxes < budget {

@@ -54,12 +54,12 @@ pub fn search_box<T: Tester>(
     bytes: &mut [u8],
     path: &mut [OpenSplit],
 ) -> Result<Found, Refused>
-    ensures answer { reply_of problem.now.ends.vars.n bytes.new result ≡ asked (meaning tester.old) problem.now budget (length bytes.old) (length path.old) }
-    ensures count { bytes_told result ≡ bytes_written (asked (meaning tester.old) problem.now budget (length bytes.old) (length path.old)) }
-    ensures written { bytes.new ≡ record_after (asked (meaning tester.old) problem.now budget (length bytes.old) (length path.old)) bytes.old }
-    ensures path { path.new ≡ path_after (asked (meaning tester.old) problem.now budget (length bytes.old) (length path.old)) path.old }
-    ensures same { meaning tester.new ≡ meaning tester.old }
-    ensures truthful { ReplyTruthful (meaning tester.old) problem.now budget (reply_of problem.now.ends.vars.n bytes.new result) }
+    ensures answer { reply_of problem.now.ends.vars.n bytes.new result ≡ asked (T.meaning tester.old) problem.now budget (length bytes.old) (length path.old) }
+    ensures count { bytes_told result ≡ bytes_written (asked (T.meaning tester.old) problem.now budget (length bytes.old) (length path.old)) }
+    ensures written { bytes.new ≡ record_after (asked (T.meaning tester.old) problem.now budget (length bytes.old) (length path.old)) bytes.old }
+    ensures path { path.new ≡ path_after (asked (T.meaning tester.old) problem.now budget (length bytes.old) (length path.old)) path.old }
+    ensures same { T.meaning tester.new ≡ T.meaning tester.old }
+    ensures truthful { ReplyTruthful (T.meaning tester.old) problem.now budget (reply_of problem.now.ends.vars.n bytes.new result) }
 {
     let boxes = admit(budget, bytes.len(), path.len())?;
     let mut stack = Stack::over(&mut *path);

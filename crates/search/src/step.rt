@@ -105,10 +105,10 @@ pub(crate) fn step<T: Tester>(
     requires few { walk.old.boxes ≤ 10000 }
     requires room { walk.old.bytes + 100 ≤ length bytes.old }
     requires place { stack.old.len < length stack.old.slots.now }
-    ensures goes { (further : Search → Found) → told (rows_of root.now) (box_of root.now) further (state_of walk.old bytes.old (entries_on stack.old)) (meaning tester.old (rows_of root.now) (box_of walk.old.at)) ≡ after root.now.ends.vars.n further (state_of walk.new bytes.new (entries_on stack.new)) result }
+    ensures goes { (further : Search → Found) → told (rows_of root.now) (box_of root.now) further (state_of walk.old bytes.old (entries_on stack.old)) (T.meaning tester.old (rows_of root.now) (box_of walk.old.at)) ≡ after root.now.ends.vars.n further (state_of walk.new bytes.new (entries_on stack.new)) result }
     ensures moved { Stepped walk.old walk.new bytes.old bytes.new stack.old stack.new }
     ensures named { stack.new.slots.ghost_name ≡ stack.old.slots.ghost_name }
-    ensures same { meaning tester.new ≡ meaning tester.old }
+    ensures same { T.meaning tester.new ≡ T.meaning tester.old }
 {
     match tester.test(&walk.at) {
         Answer::Empty(leaf) => refute(root, walk, bytes, stack, &leaf),

@@ -6,7 +6,7 @@ use Rattle.tableau.specs.declared.run.Step.TheVariants.{Standing, Stuck}
 use Rattle.tableau.specs.declared.run.Stop.{Stop}
 use Rattle.tableau.specs.declared.run.Stop.TheVariants.{Stands, Fails, GaveWay}
 use Rattle.tableau.specs.Lines.{blank, start_lines}
-use Rattle.tableau.specs.Tableau.{Tableau, Run, ends_of, small_lines, look}
+use Rattle.tableau.specs.Tableau.{Tableau, ends_of, small_lines, look}
 use Rattle.tableau.specs.Sound.{Solved, Hold, DividesAll, Nonbasic, AtAnEnd}
 
 -- the number of quantities

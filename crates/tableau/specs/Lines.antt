@@ -1,7 +1,7 @@
 -- Lines, the equations of a tableau. Quantities are counted from 0, variables first.
 -- A line says that 0 is the sum of number times quantity over all quantities: -d at its basic quantity, a at each nonbasic one, 0 at the other basic ones.
 -- So it is d b = sum of a q, with all on one side.
-use Rattle.std.specs.Prelude.{ℕ, zero, suc, ◌+◌, cond, List, [], ◌∷◌, ◌++◌, length, get_or, ℤ, pos, negsuc, ◌+ℤ◌, ◌*ℤ◌, neg_ℤ, nat_lt, slice_index_or, unsigned_abs}
+use Rattle.std.specs.Prelude.{ℕ, suc, ◌+◌, cond, List, [], ◌∷◌, ◌++◌, length, get_or, ℤ, pos, negsuc, neg_ℤ, nat_lt, slice_index_or, unsigned_abs}
 use Rattle.std.specs.Int.{int_div_euclid}
 use Rattle.problems.specs.Whole.{is_zero, positive}
 use Rattle.problems.specs.Rows.{add, scale}

@@ -6,7 +6,7 @@ use Rattle.problems.specs.Box.{Box, no_ends}
 use Rattle.testers.specs.Gcd.{Divides}
 use Rattle.tableau.specs.declared.line.Line.{Line}
 use Rattle.tableau.specs.Lines.{blank, den}
-use Rattle.tableau.specs.Tableau.{Tableau, Run, ends_of, run_on}
+use Rattle.tableau.specs.Tableau.{Tableau, ends_of, run_on}
 
 -- each line is below 0 at its own basic quantity, and 0 at those of the others
 pub record Solved (ls : List Line) : Type 0 where

@@ -6,6 +6,8 @@
 //! | `line` | the equation of a basic quantity |
 //! | `run` | what a run of pivots goes by, and how it stops |
 //! | `fraction` | the value of a quantity |
+#![tactic(auto)]
+
 pub mod fraction;
 pub mod line;
 pub mod run;

@@ -1,5 +1,5 @@
 -- Euclid's steps, one at a time, and what they come to: the greatest common divisor, no larger than either number.
-use Rattle.std.proofs.Common.{◌≡◌, ℕ, zero, suc, ◌+◌, ◌-◌, ◌*◌, ◌/◌, ◌%◌, ◌<◌, ◌≤◌, sym, refl, ap, ◌∙◌, not-suc-le-zero, arith}
+use Rattle.std.proofs.Common.{◌≡◌, ℕ, zero, suc, ◌+◌, ◌-◌, ◌*◌, ◌/◌, ◌%◌, ◌<◌, ◌≤◌, refl, ap, ◌∙◌, not-suc-le-zero, arith}
 use native.Mathlib.Nat.{mul-sub}
 use Rattle.testers.specs.Gcd.{gcd_by, gcd, Divides, GreatestCommon}
 

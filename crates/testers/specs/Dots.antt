@@ -1,5 +1,5 @@
 -- Products of rows, a missing entry counting as 0.
-use Rattle.std.specs.Prelude.{◌≡◌, ℕ, zero, suc, ◌+◌, ◌-◌, ◌*◌, true, List, [], ◌∷◌, get_or, drop, ℤ, pos, ◌+ℤ◌, ◌*ℤ◌, refl}
+use Rattle.std.specs.Prelude.{◌≡◌, ℕ, zero, suc, true, List, [], ◌∷◌, get_or, drop, ℤ, pos, ◌+ℤ◌, ◌*ℤ◌, refl}
 use Rattle.std.proofs.Common.{sym, arith}
 use Rattle.std.proofs.Math.IntN.{*ℤ-zero}
 use Rattle.std.proofs.lemmas.Int.{ints}

@@ -5,6 +5,8 @@
 //! | `leaf`, `answer`, `tester` | what is said of a box, and the promise of those who say it |
 //! | `gcd` | the greatest common divisor |
 //! | `row_check`, `middle`, `halving` | the halving tester and its parts |
+#![tactic(auto)]
+
 pub mod answer;
 pub mod gcd;
 pub mod halving;

@@ -1,5 +1,5 @@
 -- What is lent for a budget is enough: no search is refused for its buffers.
-use Rattle.std.proofs.Common.{◌≡◌, ℕ, ◌-◌, ◌*◌, ◌≤◌, min, List, ◌++◌, length, take, ℤ, pos, negsuc, nat_abs, Result, sym, refl, ap, ◌∙◌, arith, length-take, take_at}
+use Rattle.std.proofs.Common.{◌≡◌, ℕ, ◌-◌, ◌*◌, ◌≤◌, min, List, ◌++◌, length, take, ℤ, pos, negsuc, nat_abs, Result, refl, ◌∙◌, arith, length-take, take_at}
 use native.Mathlib.Nat.{sub-zero}
 use Rattle.std.proofs.lemmas.Bool.Decides.{nat_tests}
 use Rattle.problems.specs.declared.problem.Problem.{Problem}

@@ -1,5 +1,5 @@
 -- Ends taken from a list two by two: one turn of the loop, and the end of the list.
-use Rattle.std.proofs.Common.{◌≡◌, ℕ, suc, ◌+◌, ◌*◌, ◌/◌, ◌%◌, ◌<◌, ◌≤◌, cond, eqb, List, [], ◌∷◌, ◌++◌, length, get_or, drop, ℤ, pos, sym, refl, ap, ◌∙◌, append_assoc, append-nil, arith, drop-cons}
+use Rattle.std.proofs.Common.{◌≡◌, ℕ, suc, ◌+◌, ◌*◌, ◌/◌, ◌%◌, ◌<◌, ◌≤◌, List, [], ◌∷◌, ◌++◌, length, get_or, drop, ℤ, pos, sym, ◌∙◌, append_assoc, append-nil, arith, drop-cons}
 use lib.Seq.{drop-length}
 use Rattle.problems.specs.declared.quantity.Span.{Span}
 use Rattle.zimborae.specs.Words.{pairs, paired}

@@ -7,6 +7,8 @@
 //! | `fault` | why a line is not answered |
 //! | `shown`, `reply`, `hex` | an answer as a line |
 //! | `script` | a run from its first line to its last |
+#![tactic(auto)]
+
 mod answer;
 mod call;
 mod desk;

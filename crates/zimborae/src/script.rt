@@ -80,7 +80,7 @@ pub fn answer_all<R: Read, W: Write>(
     output: &mut W,
 ) -> io::Result<bool> {
     let mut record = vec![in heap; 0u8; BYTES]?;
-    let mut places = vec![in heap; <OpenSplit as lent::entry::Entry>::BLANK; PLACES]?;
+    let mut places = vec![in heap; <OpenSplit as Entry>::BLANK; PLACES]?;
     let bytes = record.as_mut_slice();
     let path = places.as_mut_slice();
     let mut desk = Desk::first();

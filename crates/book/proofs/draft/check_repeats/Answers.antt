@@ -7,24 +7,24 @@ use Rattle.book.proofs.Faults.{each_refused, each_passed, each_done, exit}
 use Rattle.book.proofs.Drafts.{same_is}
 use Rattle.book.proofs.draft.check_repeats.Goals as goal
 
-pub refuse-if-requires : goal.refuse-if-requires
-refuse-if-requires c = omega (arith, (proper c.args.problem.now).few_rows, c.rows-i-end.ensures.value)
+pub refuse_if-requires : goal.refuse_if-requires
+refuse_if-requires c = omega (arith, (proper c.args.problem.now).few_rows, c.rows-i-end.ensures.value)
 
-pub returns-in-err-refuse-if : goal.returns-in-err-refuse-if
-returns-in-err-refuse-if c =
-    let r = c.in-err-refuse-if.field-0.0 in
+pub returns-in_err-refuse_if : goal.returns-in_err-refuse_if
+returns-in_err-refuse_if c =
+    let r = c.in_err-refuse_if.field-0.0 in
     let av = c.args.coefs.now in
     let rows = rows_of c.args.problem.now in
-    exit c.from-residual.result r c.from-residual.ensures.1
+    exit c.from_residual.result r c.from_residual.ensures.1
     ∙ each_refused (same_row av) Repeat rows c.loop-i.i [] c.eq.result r (omega (arith, c.rows-i-end.ensures.value))
-    (same_is av c.coefs.result.now (get_or rows c.loop-i.i []) c.eq.result c.eq.ensures c.coefs.ensures) c.in-err-refuse-if.ensures c.loop-i.invariant
+    (same_is av c.coefs.result.now (get_or rows c.loop-i.i []) c.eq.result c.eq.ensures c.coefs.ensures) c.in_err-refuse_if.ensures c.loop-i.invariant
 
 pub loop-i-preserved : goal.loop-i-preserved
 loop-i-preserved c =
     let av = c.args.coefs.now in
     let rows = rows_of c.args.problem.now in
     each_passed (same_row av) Repeat rows c.loop-i.i [] c.eq.result (omega (arith, c.rows-i-end.ensures.value))
-    (same_is av c.coefs.result.now (get_or rows c.loop-i.i []) c.eq.result c.eq.ensures c.coefs.ensures) c.in-ok-refuse-if.ensures c.loop-i.invariant
+    (same_is av c.coefs.result.now (get_or rows c.loop-i.i []) c.eq.result c.eq.ensures c.coefs.ensures) c.in_ok-refuse_if.ensures c.loop-i.invariant
 
 pub returns : goal.returns
 returns c =

@@ -7,13 +7,13 @@ use Rattle.testers.proofs.Extremes.{coef_at, span_at}
 use Rattle.layers.specs.Frees.{part_next, part_end}
 use Rattle.layers.proofs.divisor.fixed_part.Goals as goal
 
-pub fixed-term-sum-requires : goal.fixed-term-sum-requires
-fixed-term-sum-requires c =
+pub fixed_term-sum-requires : goal.fixed_term-sum-requires
+fixed_term-sum-requires c =
     let h = coef_at c.args.coefs.now c.loop-i.i c.requires.coefficients in
     record { coefficient = rw (back (get_or c.args.coefs.now c.loop-i.i (pos 0)) (omega arith)) h; proper = span_at c.args.vars.now c.loop-i.i c.requires.proper }
 
-pub overflow-add-sum : goal.overflow-add-sum
-overflow-add-sum c = omega (arith, ints, c.loop-i.invariant.1, c.loop-i.sum-is)
+pub overflow_add-sum : goal.overflow_add-sum
+overflow_add-sum c = omega (arith, ints, c.loop-i.invariant.1, c.loop-i.sum-is)
 
 pub loop-i-preserved : goal.loop-i-preserved
 loop-i-preserved c =
@@ -22,7 +22,7 @@ loop-i-preserved c =
     let i = c.loop-i.i in
     let a = get_or r i (pos 0) in
     let s = get_or ss i nowhere in
-    let e = c.fixed-term-sum.ensures.value ∙ ap (λ (z : ℤ). cond (fixed s) (z *ℤ s.lower) (pos 0)) (back a (omega (arith, coef_at r i c.requires.coefficients))) in
+    let e = c.fixed_term-sum.ensures.value ∙ ap (λ (z : ℤ). cond (fixed s) (z *ℤ s.lower) (pos 0)) (back a (omega (arith, coef_at r i c.requires.coefficients))) in
     let d = part_next r ss i (omega arith) (omega arith) in
     (omega (arith, ints, c.loop-i.invariant.0, c.loop-i.invariant.1, d, e), omega (arith, ints, c.loop-i.invariant.1))
 

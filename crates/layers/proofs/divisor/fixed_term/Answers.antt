@@ -5,8 +5,8 @@ use Rattle.testers.specs.Leaf.{fixed}
 use Rattle.testers.proofs.Products.{back, term_fits, term_back, term_small}
 use Rattle.layers.proofs.divisor.fixed_term.Goals as goal
 
-pub overflow-mul-result : goal.overflow-mul-result
-overflow-mul-result c = term_fits c.args.a c.args.s.lower c.requires.coefficient (span_from c.args.s c.requires.proper).1
+pub overflow_mul-result : goal.overflow_mul-result
+overflow_mul-result c = term_fits c.args.a c.args.s.lower c.requires.coefficient (span_from c.args.s c.requires.proper).1
 
 pub returns-then-s : goal.returns-then-s
 returns-then-s c =

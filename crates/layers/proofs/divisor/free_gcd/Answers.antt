@@ -1,4 +1,4 @@
-use Rattle.std.proofs.Common.{◌≡◌, ℕ, ◌+◌, ◌-◌, ◌≤◌, cond, length, get_or, drop, ℤ, pos, nat_abs, sym, ap, ◌∙◌, arith}
+use Rattle.std.proofs.Common.{◌≡◌, ◌+◌, ◌-◌, cond, length, get_or, drop, ℤ, pos, nat_abs, ap, ◌∙◌, arith}
 use Rattle.problems.specs.Box.{nowhere}
 use Rattle.problems.proofs.Propers.{coefs_from}
 use Rattle.testers.specs.Gcd.{gcd}
@@ -20,7 +20,7 @@ loop-i-preserved c =
     let a = get_or r i (pos 0) in
     let s = get_or ss i nowhere in
     let size = cond (fixed s) 0 (nat_abs a) in
-    let e = c.free-size.ensures ∙ ap (λ (z : ℤ). cond (fixed s) 0 (nat_abs z)) (back a (omega (arith, coef_at r i c.requires.coefficients))) in
+    let e = c.free_size.ensures ∙ ap (λ (z : ℤ). cond (fixed s) 0 (nat_abs z)) (back a (omega (arith, coef_at r i c.requires.coefficients))) in
     let up : c.loop-i.i ≡ i + 1 = omega (arith, c.loop-i-test.true) in
     c.gcd-g.ensures.value
     ∙ ap (λ n. gcd n c.loop-i.g) e

@@ -27,47 +27,47 @@ divisor_told : (p : Problem) (g : ℕ) (r : List ℤ) (ss : List Span) (i : ℕ)
     → g ≡ free_gcd (get_or (rows_of p) i []) (box_of p).vars
 divisor_told p g r ss i e q h = h ∙ ap (λ (x : List ℤ). free_gcd x ss) e ∙ ap (free_gcd (get_or (rows_of p) i [])) q
 
-pub free-gcd-g-requires : goal.free-gcd-g-requires
-free-gcd-g-requires c =
+pub free_gcd-g-requires : goal.free_gcd-g-requires
+free_gcd-g-requires c =
     let p = c.args.problem.now in
     let i = c.loop-i.i in
-    let row = row_fits p c.coefs-coefs.result.now c.vars-vars.result.now i (is_row p _ i c.row-ends-ends.ensures c.loop-i-test.true) c.coefs-coefs.ensures c.vars-vars.ensures in
+    let row = row_fits p c.coefs-coefs.result.now c.vars-vars.result.now i (is_row p _ i c.row_ends-ends.ensures c.loop-i-test.true) c.coefs-coefs.ensures c.vars-vars.ensures in
     record { coefficients = row.0; alike = row.1 }
 
-pub misses-row-requires : goal.misses-row-requires
-misses-row-requires c =
+pub misses_row-requires : goal.misses_row-requires
+misses_row-requires c =
     let p = c.args.problem.now in
     let i = c.loop-i.i in
-    let row = row_fits p c.coefs-coefs.result.now c.vars-vars.result.now i (is_row p _ i c.row-ends-ends.ensures c.loop-i-test.true) c.coefs-coefs.ensures c.vars-vars.ensures in
+    let row = row_fits p c.coefs-coefs.result.now c.vars-vars.result.now i (is_row p _ i c.row_ends-ends.ensures c.loop-i-test.true) c.coefs-coefs.ensures c.vars-vars.ensures in
     record {
-      divisor = c.free-gcd-g.ensures.small;
+      divisor = c.free_gcd-g.ensures.small;
       coefficients = row.0;
       proper = ap spans_proper c.vars-vars.ensures ∙ (proper p).spans;
       alike = row.1;
       few = row.2;
-      ends = ends_at c.row-ends-ends.result.now i (ap row_ends_proper c.row-ends-ends.ensures ∙ (proper p).row_spans);
+      ends = ends_at c.row_ends-ends.result.now i (ap row_ends_proper c.row_ends-ends.ensures ∙ (proper p).row_spans);
     }
 
-pub returns-then-misses-row : goal.returns-then-misses-row
-returns-then-misses-row c =
+pub returns-then-misses_row : goal.returns-then-misses_row
+returns-then-misses_row c =
     let p = c.args.problem.now in
     let i = c.loop-i.i in
-    let g = c.free-gcd-g.result in
-    let told = misses_told true g (rows_of p) (box_of p) i _ _ _ c.coefs-coefs.ensures c.vars-vars.ensures c.row-ends-ends.ensures c.if-misses-row.ensures in
-    missed_at (rows_of p) (box_of p) i g (is_row p _ i c.row-ends-ends.ensures c.loop-i-test.true) (divisor_told p g _ _ i c.coefs-coefs.ensures c.vars-vars.ensures c.free-gcd-g.ensures.value) told
+    let g = c.free_gcd-g.result in
+    let told = misses_told true g (rows_of p) (box_of p) i _ _ _ c.coefs-coefs.ensures c.vars-vars.ensures c.row_ends-ends.ensures c.if-misses_row.ensures in
+    missed_at (rows_of p) (box_of p) i g (is_row p _ i c.row_ends-ends.ensures c.loop-i-test.true) (divisor_told p g _ _ i c.coefs-coefs.ensures c.vars-vars.ensures c.free_gcd-g.ensures.value) told
     ∙ c.loop-i.invariant
 
 pub loop-i-preserved : goal.loop-i-preserved
 loop-i-preserved c =
     let p = c.args.problem.now in
     let i = c.loop-i.i in
-    let g = c.free-gcd-g.result in
-    let told = misses_told false g (rows_of p) (box_of p) i _ _ _ c.coefs-coefs.ensures c.vars-vars.ensures c.row-ends-ends.ensures c.if-misses-row.ensures in
-    met_at (rows_of p) (box_of p) i g (is_row p _ i c.row-ends-ends.ensures c.loop-i-test.true) (divisor_told p g _ _ i c.coefs-coefs.ensures c.vars-vars.ensures c.free-gcd-g.ensures.value) told
+    let g = c.free_gcd-g.result in
+    let told = misses_told false g (rows_of p) (box_of p) i _ _ _ c.coefs-coefs.ensures c.vars-vars.ensures c.row_ends-ends.ensures c.if-misses_row.ensures in
+    met_at (rows_of p) (box_of p) i g (is_row p _ i c.row_ends-ends.ensures c.loop-i-test.true) (divisor_told p g _ _ i c.coefs-coefs.ensures c.vars-vars.ensures c.free_gcd-g.ensures.value) told
     ∙ c.loop-i.invariant
 
 pub returns : goal.returns
 returns c =
     let p = c.args.problem.now in
-    let past : length (rows_of p) ≤ c.loop-i.i = omega (arith, ap length c.row-ends-ends.ensures, (proper p).ends_of_rows) in
+    let past : length (rows_of p) ≤ c.loop-i.i = omega (arith, ap length c.row_ends-ends.ensures, (proper p).ends_of_rows) in
     none_missed (rows_of p) (box_of p) c.loop-i.i past ∙ c.loop-i.invariant

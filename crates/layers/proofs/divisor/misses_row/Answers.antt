@@ -9,8 +9,8 @@ returns-then-g-ge-LEAST c =
     let ends = c.args.ends in
     let l = c.in-Some-Some.lower in
     let u = c.in-Some-Some.upper in
-    let f = c.fixed-part-part.result in
-    let low = less_back l f (lower_reach ends l c.requires.ends c.in-Some-Some.is-0) c.fixed-part-part.ensures.small in
-    let high = less_back u f (upper_reach ends u c.requires.ends c.in-Some-Some.is-1) c.fixed-part-part.ensures.small in
+    let f = c.fixed_part-part.result in
+    let low = less_back l f (lower_reach ends l c.requires.ends c.in-Some-Some.is-0) c.fixed_part-part.ensures.small in
+    let high = less_back u f (upper_reach ends u c.requires.ends c.in-Some-Some.is-1) c.fixed_part-part.ensures.small in
     misses_by c.no_multiple.result g f ends.lower ends.upper l u c.in-Some-Some.is-0 c.in-Some-Some.is-1 low high c.if-g-ge-LEAST.true c.no_multiple.ensures
-    ∙ ap (λ (z : ℤ). misses g z ends.lower ends.upper) c.fixed-part-part.ensures.value
+    ∙ ap (λ (z : ℤ). misses g z ends.lower ends.upper) c.fixed_part-part.ensures.value

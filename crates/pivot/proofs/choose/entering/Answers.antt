@@ -1,4 +1,4 @@
-use Rattle.std.proofs.Common.{◌≡◌, length, get_or, take, ℤ, pos, nat_abs, sym, refl, ap, ◌∙◌, subst, arith, w64, SFits, rules}
+use Rattle.std.proofs.Common.{length, get_or, pos, sym, ◌∙◌, arith}
 use Rattle.pivot.specs.Shapes.{seen}
 use Rattle.pivot.proofs.Picks.{enter_yes, enter_no, enter_end, fit_same, fit_other, line_at}
 use Rattle.pivot.proofs.Walks.{within_at}

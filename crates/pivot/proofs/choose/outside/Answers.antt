@@ -1,12 +1,12 @@
-use Rattle.std.proofs.Common.{◌≡◌, ◌-◌, List, [], map, length, get_or, drop, sym, refl, ap, ◌∙◌, subst, arith}
+use Rattle.std.proofs.Common.{◌≡◌, ◌-◌, map, length, drop, sym, ap, ◌∙◌, arith}
 use Rattle.std.proofs.lemmas.List.{drop_all, length-map}
 use Rattle.tableau.specs.Choices.{outside, earlier}
 use Rattle.pivot.specs.Shapes.{seen}
 use Rattle.pivot.proofs.Picks.{lines_at, outside_step}
 use Rattle.pivot.proofs.choose.outside.Goals as goal
 
-pub violation-of-requires : goal.violation-of-requires
-violation-of-requires c =
+pub violation_of-requires : goal.violation_of-requires
+violation_of-requires c =
     record {
       line = lines_at (length c.args.values.now) c.args.lines.now (c.loop-i.i - 1) _ c.requires.lines (omega arith);
       short = c.requires.short;
@@ -24,7 +24,7 @@ loop-i-init c =
 pub loop-i-preserved : goal.loop-i-preserved
 loop-i-preserved c =
     let f = seen (length c.args.values.now) in
-    c.earlier-best.ensures ∙ ap (λ v. earlier v c.loop-i.best) c.violation-of.ensures ∙ ap (earlier _) c.loop-i.invariant
+    c.earlier-best.ensures ∙ ap (λ v. earlier v c.loop-i.best) c.violation_of.ensures ∙ ap (earlier _) c.loop-i.invariant
     ∙ outside_step c.args.ends.now c.args.values.now f c.args.lines.now c.loop-i.i _ (omega arith) (omega arith)
 
 pub returns : goal.returns

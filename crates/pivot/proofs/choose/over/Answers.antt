@@ -1,11 +1,11 @@
-use Rattle.std.proofs.Common.{◌≡◌, ◌≤◌, ℤ, nat_abs, sym, refl, ap, ◌∙◌, subst, arith, w64}
+use Rattle.std.proofs.Common.{◌≤◌, nat_abs, w64}
 use Rattle.std.proofs.lemmas.Int.{to_z-of_z}
 use Rattle.pivot.proofs.Picks.{reach_at}
 use Rattle.pivot.proofs.Casts.{times_fits, times_back}
 use Rattle.pivot.proofs.choose.over.Goals as goal
 
-pub overflow-mul-result : goal.overflow-mul-result
-overflow-mul-result c = times_fits c.args.d c.in-Some.e c.requires.den (reach_at c.args.end c.in-Some.e c.in-Some.is c.requires.end)
+pub overflow_mul-result : goal.overflow_mul-result
+overflow_mul-result c = times_fits c.args.d c.in-Some.e c.requires.den (reach_at c.args.end c.in-Some.e c.in-Some.is c.requires.end)
 
 pub returns-in-Some : goal.returns-in-Some
 returns-in-Some c =

@@ -1,13 +1,12 @@
-use Rattle.std.proofs.Common.{◌≡◌, ◌≤◌, length, get_or, take, ℤ, pos, nat_abs, sym, refl, ap, ◌∙◌, subst, arith, w64, SFits, rules}
-use Rattle.std.proofs.lemmas.Int.{to_z-of_z}
+use Rattle.std.proofs.Common.{length, get_or, pos, sym, ap, ◌∙◌, w64, SFits, rules}
 use Rattle.problems.specs.Box.{no_ends}
 use Rattle.tableau.specs.Choices.{found}
 use Rattle.pivot.proofs.Picks.{line_at, ends_at, seen_violated}
 use Rattle.pivot.proofs.Casts.{neg_back, neg_fits, small_neg}
 use Rattle.pivot.proofs.choose.violation_of.Goals as goal
 
-pub overflow-sub-line : goal.overflow-sub-line
-overflow-sub-line c = neg_fits (get_or c.args.line.now.nums c.args.line.now.basic (pos 0)) (line_at (length c.args.values.now) c.args.line.now c.args.line.now.basic c.requires.line c.requires.line.basic)
+pub overflow_sub-line : goal.overflow_sub-line
+overflow_sub-line c = neg_fits (get_or c.args.line.now.nums c.args.line.now.basic (pos 0)) (line_at (length c.args.values.now) c.args.line.now c.args.line.now.basic c.requires.line c.requires.line.basic)
 
 pub violated-requires : goal.violated-requires
 violated-requires c =

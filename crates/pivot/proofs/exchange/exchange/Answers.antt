@@ -1,4 +1,4 @@
-use Rattle.std.proofs.Common.{◌≡◌, map, length, take, drop, set, sym, refl, ap, ◌∙◌, subst, arith}
+use Rattle.std.proofs.Common.{map, sym, refl, ap, ◌∙◌, arith}
 use Rattle.pivot.specs.Shapes.{seen}
 use Rattle.tableau.specs.Tableau.{exchanged}
 use Rattle.pivot.proofs.Picks.{lines_at}

@@ -1,4 +1,4 @@
-use Rattle.std.proofs.Common.{◌≡◌, ◌-◌, ◌<◌, ◌≤◌, length, take, sym, refl, ap, ◌∙◌, subst, arith}
+use Rattle.std.proofs.Common.{◌<◌, sym, ap, ◌∙◌, subst, arith}
 use Rattle.problems.specs.Whole.{all_within}
 use Rattle.pivot.proofs.Parts.{front, front_long, put_long, substituted_is}
 use Rattle.pivot.proofs.exchange.substitute.Goals as goal

@@ -1,4 +1,4 @@
-use Rattle.std.proofs.Common.{◌≡◌, ◌≤◌, true, get_or, ℤ, pos, neg_ℤ, nat_abs, sym, refl, ap, ◌∙◌, subst, arith, w64, to_z, of_z}
+use Rattle.std.proofs.Common.{◌≤◌, get_or, pos, neg_ℤ, nat_abs, ap, ◌∙◌, arith, w64, to_z, of_z}
 use Rattle.problems.specs.Whole.{all_within}
 use Rattle.problems.specs.Rows.{add, scale}
 use Rattle.tableau.specs.Lines.{reduced}
@@ -7,8 +7,8 @@ use Rattle.pivot.proofs.Casts.{neg_back, neg_fits, small_neg}
 use Rattle.pivot.proofs.Walks.{within_at, mix_within}
 use Rattle.pivot.proofs.numbers.combine.Goals as goal
 
-pub overflow-sub-p : goal.overflow-sub-p
-overflow-sub-p c = neg_fits (get_or c.args.t.now c.args.q (pos 0)) (within_at 1000000000 c.args.t.now c.requires.other c.args.q)
+pub overflow_sub-p : goal.overflow_sub-p
+overflow_sub-p c = neg_fits (get_or c.args.t.now c.args.q (pos 0)) (within_at 1000000000 c.args.t.now c.requires.other c.args.q)
 
 pub mix-requires : goal.mix-requires
 mix-requires c =

@@ -1,4 +1,4 @@
-use Rattle.std.proofs.Common.{◌≡◌, ◌+◌, List, get_or, drop, ℤ, pos, nat_abs, sym, refl, ap, ◌∙◌, subst, arith, w64, SFits, rules}
+use Rattle.std.proofs.Common.{◌+◌, get_or, drop, pos, sym, ap, ◌∙◌, arith, w64, SFits, rules}
 use Rattle.std.proofs.lemmas.Int.{to_z-of_z}
 use Rattle.std.proofs.lemmas.List.{at_drop_more, at_drop_all}
 use Rattle.testers.specs.Gcd.{gcd}
@@ -12,7 +12,7 @@ returns-then-g-eq-UNIT c = sym (gcd_one (drop c.loop-i.i c.args.row.now)) ∙ ap
 pub loop-i-preserved : goal.loop-i-preserved
 loop-i-preserved c =
     let f : SFits w64 (get_or c.args.row.now c.loop-i.i (pos 0)) = search rules in
-    let u = simp to_z-of_z at c.unsigned-abs.ensures.value in
+    let u = simp to_z-of_z at c.unsigned_abs.ensures.value in
     let e = c.gcd-g.ensures.value ∙ ap (λ n. gcd n c.loop-i.g) u in
     ap (λ g. gcd_all g (drop (c.loop-i.i + 1) c.args.row.now)) e ∙ sym (at_drop_more (gcd_all c.loop-i.g) c.args.row.now c.loop-i.i (pos 0) (omega arith)) ∙ c.loop-i.invariant
 

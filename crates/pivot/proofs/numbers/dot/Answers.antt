@@ -1,21 +1,20 @@
-use Rattle.std.proofs.Common.{◌≡◌, ℕ, ◌+◌, ◌*◌, ◌≤◌, get_or, drop, ℤ, pos, ◌+ℤ◌, ◌*ℤ◌, nat_abs, sym, refl, ap, ◌∙◌, subst, arith, w64, SFits, to_z, of_z}
+use Rattle.std.proofs.Common.{◌≤◌, get_or, pos, ◌+ℤ◌, ◌*ℤ◌, nat_abs, ◌∙◌, arith, w64, SFits}
 use borrow.Author.Differences.{ints}
 use Rattle.std.proofs.lemmas.Int.{to_z-of_z}
-use Rattle.problems.specs.Rows.{dot}
 use Rattle.testers.proofs.Products.{fits, back}
 use Rattle.pivot.proofs.Casts.{mul_fits, term, term_small}
 use Rattle.pivot.proofs.Walks.{dot_next, dot_end, within_at}
 use Rattle.pivot.proofs.numbers.dot.Goals as goal
 
-pub overflow-mul-sum : goal.overflow-mul-sum
-overflow-mul-sum c =
+pub overflow_mul-sum : goal.overflow_mul-sum
+overflow_mul-sum c =
     let ha = within_at 1000000000 c.args.a.now c.requires.left c.loop-i.i in
     let hx = within_at 200000000 c.args.x.now c.requires.right c.loop-i.i in
     simp (back (get_or c.args.a.now c.loop-i.i (pos 0)) (omega arith))
     (mul_fits 1000000000 200000000 (get_or c.args.a.now c.loop-i.i (pos 0)) (get_or c.args.x.now c.loop-i.i (pos 0)) ha hx (omega arith) (omega arith))
 
-pub overflow-add-sum : goal.overflow-add-sum
-overflow-add-sum c =
+pub overflow_add-sum : goal.overflow_add-sum
+overflow_add-sum c =
     let a = get_or c.args.a.now c.loop-i.i (pos 0) in
     let x = get_or c.args.x.now c.loop-i.i (pos 0) in
     let ha : nat_abs a ≤ 1000000000 = within_at 1000000000 c.args.a.now c.requires.left c.loop-i.i in

@@ -1,24 +1,24 @@
-use Rattle.std.proofs.Common.{◌≡◌, ℕ, ◌+◌, ◌*◌, ◌<◌, ◌≤◌, ◌++◌, length, get_or, take, drop, set, ℤ, pos, ◌+ℤ◌, ◌*ℤ◌, nat_abs, sym, refl, ap, ◌∙◌, subst, arith, w64, SFits, to_z, of_z}
+use Rattle.std.proofs.Common.{◌+◌, ◌<◌, ◌≤◌, get_or, drop, pos, ◌+ℤ◌, ◌*ℤ◌, nat_abs, sym, refl, ap, ◌∙◌, arith, w64, to_z, of_z}
 use Rattle.std.proofs.lemmas.Int.{to_z-of_z}
 use Rattle.std.proofs.lemmas.List.{drop_all, drop-set-lt}
 use Rattle.problems.specs.Rows.{add, scale}
-use Rattle.testers.proofs.Products.{fits, back}
+use Rattle.testers.proofs.Products.{fits}
 use Rattle.pivot.proofs.Casts.{mul_fits, mixed, mixed_small, mixed_back}
 use Rattle.pivot.proofs.Walks.{mix_next, done, within_at, within_from, within_next}
 use Rattle.pivot.proofs.numbers.mix.Goals as goal
 
-pub overflow-mul-row : goal.overflow-mul-row
-overflow-mul-row c =
+pub overflow_mul-row : goal.overflow_mul-row
+overflow_mul-row c =
     let hx = within_from 1000000000 c.loop-i.row c.loop-i.i c.loop-i.invariant.1 in
     simp (to_z-of_z w64 c.args.p c.ranges.p) (mul_fits 1000000000 1000000000 c.args.p (get_or c.loop-i.row c.loop-i.i (pos 0)) c.requires.factor hx (omega arith) (omega arith))
 
-pub overflow-mul-row-in-loop-i : goal.overflow-mul-row-in-loop-i
-overflow-mul-row-in-loop-i c =
+pub overflow_mul-row-in-loop-i : goal.overflow_mul-row-in-loop-i
+overflow_mul-row-in-loop-i c =
     let hy = within_at 1000000000 c.args.t.now c.requires.other c.loop-i.i in
     simp (to_z-of_z w64 c.args.c c.ranges.c) (mul_fits 1000000000 1000000000 c.args.c (get_or c.args.t.now c.loop-i.i (pos 0)) c.requires.multiple hy (omega arith) (omega arith))
 
-pub overflow-add-row : goal.overflow-add-row
-overflow-add-row c =
+pub overflow_add-row : goal.overflow_add-row
+overflow_add-row c =
     let x = get_or c.loop-i.row c.loop-i.i (pos 0) in
     let y = get_or c.args.t.now c.loop-i.i (pos 0) in
     let hx = within_from 1000000000 c.loop-i.row c.loop-i.i c.loop-i.invariant.1 in

@@ -1,13 +1,13 @@
-use Rattle.std.proofs.Common.{◌≡◌, ℕ, ◌+◌, ◌<◌, ◌≤◌, length, get_or, take, drop, set, ℤ, pos, negsuc, ◌-ℤ◌, ◌*ℤ◌, neg_ℤ, nat_abs, sym, refl, ap, ◌∙◌, subst, arith, w64, SFits, to_z, of_z}
+use Rattle.std.proofs.Common.{◌≡◌, ◌+◌, ◌<◌, ◌≤◌, get_or, drop, pos, negsuc, ◌-ℤ◌, ◌*ℤ◌, nat_abs, sym, ap, ◌∙◌, arith, w64, to_z, of_z}
 use borrow.Author.Differences.{ints}
 use Rattle.std.proofs.lemmas.List.{drop_all, drop-set-lt}
 use Rattle.problems.specs.Rows.{scale}
-use Rattle.pivot.proofs.Casts.{neg_back, neg_fits}
+use Rattle.pivot.proofs.Casts.{neg_fits}
 use Rattle.pivot.proofs.Walks.{negate_next, done, within_from, within_next}
 use Rattle.pivot.proofs.numbers.negate.Goals as goal
 
-pub overflow-sub-row : goal.overflow-sub-row
-overflow-sub-row c = neg_fits (get_or c.loop-i.row c.loop-i.i (pos 0)) (within_from 1000000000 c.loop-i.row c.loop-i.i c.loop-i.invariant.1)
+pub overflow_sub-row : goal.overflow_sub-row
+overflow_sub-row c = neg_fits (get_or c.loop-i.row c.loop-i.i (pos 0)) (within_from 1000000000 c.loop-i.row c.loop-i.i c.loop-i.invariant.1)
 
 pub loop-i-preserved : goal.loop-i-preserved
 loop-i-preserved c =

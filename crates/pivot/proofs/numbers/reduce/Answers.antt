@@ -1,13 +1,12 @@
-use Rattle.std.proofs.Common.{◌≡◌, ℕ, ◌<◌, ◌≤◌, true, cond, ltb, ℤ, pos, sym, refl, ap, ◌∙◌, subst, arith, w64, SFits, to_z, of_z}
+use Rattle.std.proofs.Common.{◌≡◌, true, cond, ltb, pos, sym, ap, ◌∙◌, arith, w64, to_z}
 use borrow.Author.Differences.{ints}
 use Rattle.std.proofs.lemmas.Bool.Decides.{nat_tests}
-use Rattle.std.proofs.lemmas.Int.{to_z_pos}
-use Rattle.tableau.specs.Lines.{gcd_all, divide_all, reduced}
+use Rattle.tableau.specs.Lines.{gcd_all, divide_all}
 use Rattle.pivot.proofs.Commons.{gcd_all_small}
 use Rattle.pivot.proofs.numbers.reduce.Goals as goal
 
-pub overflow-cast-g : goal.overflow-cast-g
-overflow-cast-g c = let h = gcd_all_small 2000000000000000000 0 c.args.row.now (omega arith) c.requires in omega (arith, ints)
+pub overflow_cast-g : goal.overflow_cast-g
+overflow_cast-g c = let h = gcd_all_small 2000000000000000000 0 c.args.row.now (omega arith) c.requires in omega (arith, ints)
 
 pub divide-requires : goal.divide-requires
 divide-requires c = let h = gcd_all_small 2000000000000000000 0 c.args.row.now (omega arith) c.requires in omega (arith, ints)

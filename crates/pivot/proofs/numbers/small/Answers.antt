@@ -5,18 +5,18 @@ use Rattle.problems.specs.Whole.{within, all_within}
 use Rattle.problems.proofs.Builds.{fails_here, passes_here}
 use Rattle.pivot.proofs.numbers.small.Goals as goal
 
-pub returns-then-not-is-small : goal.returns-then-not-is-small
-returns-then-not-is-small c =
+pub returns-then-not-is_small : goal.returns-then-not-is_small
+returns-then-not-is_small c =
     let a = get_or c.args.row.now c.loop-a.a-index (pos 0) in
     let f : SFits w64 a = search rules in
-    fails_here (within 1000000000 a) _ _ (c.if-not-is-small.ensures ∙ ap (within 1000000000) (to_z-of_z w64 a f))
+    fails_here (within 1000000000 a) _ _ (c.if-not-is_small.ensures ∙ ap (within 1000000000) (to_z-of_z w64 a f))
     (sym (at_drop_more (all_within 1000000000) c.args.row.now c.loop-a.a-index (pos 0) (omega arith)) ∙ c.loop-a.invariant)
 
 pub loop-a-preserved : goal.loop-a-preserved
 loop-a-preserved c =
     let a = get_or c.args.row.now c.loop-a.a-index (pos 0) in
     let f : SFits w64 a = search rules in
-    passes_here (within 1000000000 a) _ _ (c.if-not-is-small.ensures ∙ ap (within 1000000000) (to_z-of_z w64 a f))
+    passes_here (within 1000000000 a) _ _ (c.if-not-is_small.ensures ∙ ap (within 1000000000) (to_z-of_z w64 a f))
     (sym (at_drop_more (all_within 1000000000) c.args.row.now c.loop-a.a-index (pos 0) (omega arith)) ∙ c.loop-a.invariant)
 
 pub returns : goal.returns

@@ -1,9 +1,9 @@
-use Rattle.std.proofs.Common.{◌≡◌, ℕ, ◌+◌, ◌*◌, ◌<◌, length, get_or, sym, refl, ap, ◌∙◌, subst, arith, w64, Fits, rules}
+use Rattle.std.proofs.Common.{◌+◌, ◌<◌, length, get_or, sym, ap, ◌∙◌, subst, arith, rules}
 use Rattle.pivot.specs.Shapes.{seen}
 use Rattle.tableau.specs.Tableau.{entered}
 use Rattle.tableau.specs.Lines.{blank}
 use Rattle.pivot.proofs.Picks.{lines_at}
-use Rattle.pivot.proofs.Rounds.{FoundIn, outside_in, Under, entering_under, look_some, look_none}
+use Rattle.pivot.proofs.Rounds.{FoundIn, outside_in, Under, entering_under, look_some}
 use Rattle.pivot.proofs.run.look.Goals as goal
 
 pub bounds-lines-f : goal.bounds-lines-f
@@ -12,8 +12,8 @@ bounds-lines-f c =
     let i = subst (FoundIn (0 + length c.args.lines.now) k) (sym c.outside.ensures ∙ c.in-Some.is) (outside_in k c.args.ends.now c.args.values.now 0 c.args.lines.now c.requires.lines) in
     omega (arith, i.0)
 
-pub offset-bounds-lines-f : goal.offset-bounds-lines-f
-offset-bounds-lines-f c =
+pub offset_bounds-lines-f : goal.offset_bounds-lines-f
+offset_bounds-lines-f c =
     let k = length c.args.values.now in
     let i = subst (FoundIn (0 + length c.args.lines.now) k) (sym c.outside.ensures ∙ c.in-Some.is) (outside_in k c.args.ends.now c.args.values.now 0 c.args.lines.now c.requires.lines) in
     let h : c.in-Some.f.place < length c.args.lines.now = omega (arith, i.0) in

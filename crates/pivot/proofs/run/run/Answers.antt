@@ -1,5 +1,4 @@
-use Rattle.std.proofs.Common.{◌≡◌, ℕ, ◌-◌, ◌<◌, List, length, sym, refl, ap, ◌∙◌, subst, arith}
-use Rattle.tableau.specs.declared.line.Line.{Line}
+use Rattle.std.proofs.Common.{◌≡◌, ℕ, ◌-◌, ◌<◌, length, sym, ap, ◌∙◌, subst, arith}
 use Rattle.tableau.specs.declared.run.Stop.TheVariants.{Stands, Fails, GaveWay}
 use Rattle.tableau.specs.Tableau.{run, gave_way, pivoted}
 use Rattle.pivot.specs.Shapes.{shown, LinesOk}
@@ -36,8 +35,8 @@ returns-then-rest-eq0 c =
     (spent c.loop-f.rest c.args.ends.now k t c.in-Turn.f c.in-Turn.q c.if-rest-eq0.true c.in-Turn.ensures.value ∙ c.loop-f.invariant.0) in
     record { stop = z.0; left = z.1; values = c.loop-f.invariant.2; order = tt }
 
-pub returns-then-not-all-small : goal.returns-then-not-all-small
-returns-then-not-all-small c =
+pub returns-then-not-all_small : goal.returns-then-not-all_small
+returns-then-not-all_small c =
     let k = length c.loop-f.values in
     let t = shown k c.loop-f.values c.loop-f.lines in
     let f = c.in-Turn.f in
@@ -45,7 +44,7 @@ returns-then-not-all-small c =
     let p = pivot_shown k c.args.ends.now c.loop-f.values c.loop-f.lines f q c.shift.new.values c.exchange.new.lines
     c.in-Turn.ensures.inside.0 c.shift.ensures.value c.exchange.ensures.value in
     let s = sized k (length c.shift.new.values) c.shift.new.values c.exchange.new.lines (pivoted c.args.ends.now f q t) _
-    c.shift.auto.values p c.if-not-all-small.ensures in
+    c.shift.auto.values p c.if-not-all_small.ensures in
     let h : 0 < c.loop-f.rest = omega arith in
     let z = closed k (length c.args.values.now) c.shift.new.values c.exchange.new.lines GaveWay _ c.loop-f.auto.values
     (ap gave_way p ∙ large c.loop-f.rest c.args.ends.now k t f q h c.in-Turn.ensures.value s.0 ∙ c.loop-f.invariant.0) in
@@ -62,7 +61,7 @@ loop-f-preserved c =
     let ls = c.exchange.new.lines in
     let e : length x ≡ k = c.shift.auto.values in
     let p = pivot_shown k ends c.loop-f.values c.loop-f.lines f q x ls c.in-Turn.ensures.inside.0 c.shift.ensures.value c.exchange.ensures.value in
-    let s = sized k (length x) x ls (pivoted ends f q t) _ e p c.if-not-all-small.ensures in
+    let s = sized k (length x) x ls (pivoted ends f q t) _ e p c.if-not-all_small.ensures in
     let h : 0 < c.loop-f.rest = omega arith in (
       ap (λ (n : ℕ). run (c.loop-f.rest - 1) ends n (shown n x ls)) e ∙ ap (run (c.loop-f.rest - 1) ends k) p
           ∙ onward c.loop-f.rest ends k t f q h c.in-Turn.ensures.value s.0 ∙ c.loop-f.invariant.0,

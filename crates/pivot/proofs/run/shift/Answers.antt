@@ -1,8 +1,8 @@
-use Rattle.std.proofs.Common.{◌≡◌, length, get_or, set, ℤ, pos, sym, refl, ap, ◌∙◌, subst, arith, w64, SFits, rules}
+use Rattle.std.proofs.Common.{get_or, set, ℤ, pos, ap, ◌∙◌, arith, w64, SFits, rules}
 use Rattle.std.proofs.lemmas.Int.{to_z-of_z}
 use Rattle.problems.specs.Box.{no_ends}
 use Rattle.problems.specs.Whole.{all_within}
-use Rattle.tableau.specs.Tableau.{end_value, moved}
+use Rattle.tableau.specs.Tableau.{end_value}
 use Rattle.pivot.proofs.Rounds.{within_set, end_small}
 use Rattle.pivot.proofs.run.shift.Goals as goal
 

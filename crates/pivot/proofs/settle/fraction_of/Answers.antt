@@ -1,4 +1,4 @@
-use Rattle.std.proofs.Common.{◌≡◌, length, get_or, ℤ, pos, neg_ℤ, sym, refl, ap, ◌∙◌, subst, arith, w64, SFits, rules}
+use Rattle.std.proofs.Common.{length, get_or, pos, neg_ℤ, sym, ap, ◌∙◌, w64, SFits, rules}
 use Rattle.std.proofs.lemmas.Int.{to_z-of_z}
 use Rattle.std.proofs.lemmas.List.{get_or-take}
 use Rattle.problems.specs.Rows.{dot}
@@ -7,8 +7,8 @@ use Rattle.pivot.proofs.Casts.{neg_back, neg_fits}
 use Rattle.pivot.proofs.Parts.{front}
 use Rattle.pivot.proofs.settle.fraction_of.Goals as goal
 
-pub overflow-sub-result : goal.overflow-sub-result
-overflow-sub-result c =
+pub overflow_sub-result : goal.overflow_sub-result
+overflow_sub-result c =
     neg_fits (get_or c.args.line.now.nums c.args.line.now.basic (pos 0))
     (line_at (length c.args.values.now) c.args.line.now c.args.line.now.basic c.requires.line c.requires.line.basic)
 

@@ -1,4 +1,4 @@
-use Rattle.std.proofs.Common.{◌≡◌, ◌-◌, Bool, cond, List, length, take, drop, ℤ, negsuc, sym, refl, ap, ◌∙◌, arith}
+use Rattle.std.proofs.Common.{◌≡◌, ◌-◌, Bool, cond, List, take, drop, ℤ, negsuc, refl, ap, ◌∙◌, arith}
 use Rattle.std.proofs.lemmas.List.{take_at}
 use Rattle.problems.specs.declared.quantity.Side.{Side}
 use Rattle.problems.specs.declared.quantity.Side.TheVariants.{Lower, Upper}

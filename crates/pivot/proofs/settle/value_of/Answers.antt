@@ -1,5 +1,4 @@
-use Rattle.std.proofs.Common.{◌≡◌, length, get_or, ℤ, pos, sym, refl, ap, ◌∙◌, subst, arith, w64, SFits, rules}
-use Rattle.std.proofs.lemmas.Int.{to_z-of_z}
+use Rattle.std.proofs.Common.{length, get_or, ℤ, pos, sym, ap, ◌∙◌, arith}
 use Rattle.tableau.specs.declared.fraction.Fraction.{Fraction}
 use Rattle.pivot.specs.Shapes.{seen}
 use Rattle.tableau.specs.Lines.{blank}
@@ -9,14 +8,14 @@ use Rattle.pivot.proofs.Walks.{within_at}
 use Rattle.pivot.proofs.Reports.{made, value_here, value_next, value_end}
 use Rattle.pivot.proofs.settle.value_of.Goals as goal
 
-pub fraction-of-requires : goal.fraction-of-requires
-fraction-of-requires c = record { line = lines_at (length c.args.values.now) c.args.lines.now c.loop-i.i _ c.requires.lines (omega arith); short = c.requires.short; values = c.requires.values }
+pub fraction_of-requires : goal.fraction_of-requires
+fraction_of-requires c = record { line = lines_at (length c.args.values.now) c.args.lines.now c.loop-i.i _ c.requires.lines (omega arith); short = c.requires.short; values = c.requires.values }
 
 pub returns-then-lines-i : goal.returns-then-lines-i
 returns-then-lines-i c =
     let k = length c.args.values.now in
     let l = get_or c.args.lines.now c.loop-i.i blank in
-    made c.fraction-of.result c.args.values.now (seen k l) c.fraction-of.ensures.num c.fraction-of.ensures.den
+    made c.fraction_of.result c.args.values.now (seen k l) c.fraction_of.ensures.num c.fraction_of.ensures.den
     ∙ sym (value_here k c.args.v c.args.values.now c.args.lines.now c.loop-i.i blank (omega arith) c.if-lines-i.true) ∙ c.loop-i.invariant
 
 pub loop-i-preserved : goal.loop-i-preserved

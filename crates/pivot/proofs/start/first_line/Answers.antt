@@ -1,4 +1,4 @@
-use Rattle.std.proofs.Common.{◌≡◌, ℕ, ◌+◌, ◌-◌, ◌<◌, ◌≤◌, List, ◌++◌, length, get_or, take, set, replicate, ℤ, pos, negsuc, sym, refl, ap, ◌∙◌, subst, arith, w64, to_z, of_z}
+use Rattle.std.proofs.Common.{◌+◌, ◌-◌, List, ◌++◌, length, get_or, take, set, replicate, ℤ, pos, negsuc, refl, ap, ◌∙◌, arith, w64, to_z, of_z}
 use Rattle.problems.specs.Whole.{all_within}
 use Rattle.tableau.specs.declared.line.Line.{Line}
 use Rattle.testers.proofs.Products.{back}

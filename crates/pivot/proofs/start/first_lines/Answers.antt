@@ -1,5 +1,4 @@
-use Rattle.std.proofs.Common.{◌≡◌, ℕ, ◌+◌, ◌<◌, true, List, [], length, get_or, take, ℤ, sym, refl, ap, ◌∙◌, subst, arith, length-set, rules}
-use Rattle.problems.specs.declared.problem.Problem.{Problem}
+use Rattle.std.proofs.Common.{◌≡◌, ℕ, ◌+◌, ◌<◌, List, [], length, get_or, take, ℤ, sym, ap, ◌∙◌, subst, arith, length-set, rules}
 use Rattle.problems.specs.Whole.{all_within}
 use Rattle.problems.specs.View.{box_of, rows_of}
 use Rattle.problems.proofs.Views.{proper, row_of}
@@ -9,14 +8,14 @@ use Rattle.pivot.specs.Shapes.{seen, LineOk, LinesOk}
 use Rattle.pivot.proofs.Begins.{start_next, start_end, start_ok, within_more}
 use Rattle.pivot.proofs.start.first_lines.Goals as goal
 
-pub offset-bounds-lines-i : goal.offset-bounds-lines-i
-offset-bounds-lines-i c = let h : c.loop-i.i < 12 = omega (arith, c.rows-m.ensures.value, (proper c.args.problem.now).few_rows) in search rules
+pub offset_bounds-lines-i : goal.offset_bounds-lines-i
+offset_bounds-lines-i c = let h : c.loop-i.i < 12 = omega (arith, c.rows-m.ensures.value, (proper c.args.problem.now).few_rows) in search rules
 
 pub bounds-lines-i : goal.bounds-lines-i
 bounds-lines-i c = let h : c.loop-i.i < 12 = omega (arith, c.rows-m.ensures.value, (proper c.args.problem.now).few_rows) in search rules
 
-pub first-line-requires : goal.first-line-requires
-first-line-requires c =
+pub first_line-requires : goal.first_line-requires
+first_line-requires c =
     let p = c.args.problem.now in
     let i = c.loop-i.i in
     let h : i < length (rows_of p) = omega (arith, c.rows-m.ensures.value) in
@@ -42,8 +41,8 @@ loop-i-preserved c =
     let k = length (box_of p).vars + m in
     let h : i < m = omega (arith, c.rows-m.ensures.value) in
     let l : i < length c.loop-i.lines = omega (arith, c.loop-i.invariant.0, (proper p).few_rows) in
-    let w = line_is k m c.rows-m.result i c.coefs.result.now (get_or (rows_of p) i []) c.first-line.result c.rows-m.ensures.value c.coefs.ensures (ap (λ (n : ℕ). n + m) (row_of p i h).0) c.first-line.ensures.value c.first-line.ensures.ok in
-    (simp length-set c.loop-i.invariant.0, start_next k m (rows_of p) c.loop-i.lines i c.first-line.result l h w.0 ∙ c.loop-i.invariant.1, start_ok k c.loop-i.lines i c.first-line.result l c.loop-i.invariant.2 w.1)
+    let w = line_is k m c.rows-m.result i c.coefs.result.now (get_or (rows_of p) i []) c.first_line.result c.rows-m.ensures.value c.coefs.ensures (ap (λ (n : ℕ). n + m) (row_of p i h).0) c.first_line.ensures.value c.first_line.ensures.ok in
+    (simp length-set c.loop-i.invariant.0, start_next k m (rows_of p) c.loop-i.lines i c.first_line.result l h w.0 ∙ c.loop-i.invariant.1, start_ok k c.loop-i.lines i c.first_line.result l c.loop-i.invariant.2 w.1)
 
 pub returns : goal.returns
 returns c =

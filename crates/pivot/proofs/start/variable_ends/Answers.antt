@@ -1,4 +1,4 @@
-use Rattle.std.proofs.Common.{◌≡◌, sym, ◌∙◌, arith, length-set}
+use Rattle.std.proofs.Common.{sym, ◌∙◌, arith, length-set}
 use Rattle.pivot.proofs.Begins.{ends_next, ends_end}
 use Rattle.pivot.proofs.start.variable_ends.Goals as goal
 

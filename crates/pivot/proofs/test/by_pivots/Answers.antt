@@ -1,4 +1,4 @@
-use Rattle.std.proofs.Common.{◌≡◌, ℕ, ◌+◌, ◌-◌, ◌≤◌, true, List, ◌++◌, map, length, take, replicate, ℤ, pos, sym, refl, ap, ◌∙◌, subst, arith, rules}
+use Rattle.std.proofs.Common.{◌≡◌, ℕ, ◌+◌, ◌-◌, ◌≤◌, List, ◌++◌, map, length, take, replicate, pos, sym, ap, ◌∙◌, subst, arith, rules}
 use Rattle.problems.specs.declared.quantity.Span.{Span}
 use Rattle.problems.specs.declared.problem.Problem.{Problem}
 use Rattle.problems.specs.Whole.{all_within}
@@ -14,27 +14,27 @@ use Rattle.pivot.proofs.test.by_pivots.Goals as goal
 few : (p : Problem) (n m : ℕ) → n ≡ length (box_of p).vars → m ≡ length (rows_of p) → n + m ≤ 24
 few p n m e f = let q = proper p in omega (arith, q.few_variables, q.few_rows)
 
-pub overflow-add-k : goal.overflow-add-k
-overflow-add-k c = let h = few c.args.problem.now c.variables.result c.rows-m.result c.variables.ensures.value c.rows-m.ensures.value in search rules
+pub overflow_add-k : goal.overflow_add-k
+overflow_add-k c = let h = few c.args.problem.now c.variables.result c.rows-m.result c.variables.ensures.value c.rows-m.ensures.value in search rules
 
-pub slice-bounds-lines-end : goal.slice-bounds-lines-end
-slice-bounds-lines-end c = let h : c.rows-m.result ≤ 12 = omega (arith, c.rows-m.ensures.value, (proper c.args.problem.now).few_rows) in search rules
+pub slice_bounds-lines-end : goal.slice_bounds-lines-end
+slice_bounds-lines-end c = let h : c.rows-m.result ≤ 12 = omega (arith, c.rows-m.ensures.value, (proper c.args.problem.now).few_rows) in search rules
 
-pub slice-bounds-values-end : goal.slice-bounds-values-end
-slice-bounds-values-end c = let h = few c.args.problem.now c.variables.result c.rows-m.result c.variables.ensures.value c.rows-m.ensures.value in search rules
+pub slice_bounds-values-end : goal.slice_bounds-values-end
+slice_bounds-values-end c = let h = few c.args.problem.now c.variables.result c.rows-m.result c.variables.ensures.value c.rows-m.ensures.value in search rules
 
-pub slice-bounds-conclude-end : goal.slice-bounds-conclude-end
-slice-bounds-conclude-end c = let h = few c.args.problem.now c.variables.result c.rows-m.result c.variables.ensures.value c.rows-m.ensures.value in search rules
+pub slice_bounds-conclude-end : goal.slice_bounds-conclude-end
+slice_bounds-conclude-end c = let h = few c.args.problem.now c.variables.result c.rows-m.result c.variables.ensures.value c.rows-m.ensures.value in search rules
 
 pub conclude-requires : goal.conclude-requires
 conclude-requires c =
     let p = c.args.problem.now in
     let q = proper p in
-    let t = fronts p c.variables.result c.rows-m.result c.vars.result.now c.row-ends.result.now c.first-values-values.result c.all-ends-ends.result c.first-lines-lines.result
-    c.variables.ensures.value c.rows-m.ensures.value c.vars.ensures c.row-ends.ensures
-    (c.first-values-values.ensures ∙ ap (λ (x : List Span). lowers x ++ replicate (24 - length x) (pos 0)) c.vars-2.ensures)
-    c.all-ends-ends.ensures c.first-lines-lines.ensures.value c.first-lines-lines.ensures.ok in
-    let L = take (c.rows-m.result - 0) c.first-lines-lines.result in
+    let t = fronts p c.variables.result c.rows-m.result c.vars.result.now c.row_ends.result.now c.first_values-values.result c.all_ends-ends.result c.first_lines-lines.result
+    c.variables.ensures.value c.rows-m.ensures.value c.vars.ensures c.row_ends.ensures
+    (c.first_values-values.ensures ∙ ap (λ (x : List Span). lowers x ++ replicate (24 - length x) (pos 0)) c.vars-2.ensures)
+    c.all_ends-ends.ensures c.first_lines-lines.ensures.value c.first_lines-lines.ensures.ok in
+    let L = take (c.rows-m.result - 0) c.first_lines-lines.result in
     record {
       lines = t.lines_ok;
       solved = subst (λ (i : ℕ). Solved (map (seen i) L)) (sym t.long) (subst Solved (sym t.lines_are) (start_solved (length (box_of p).vars) (rows_of p) q.coefficients));
@@ -47,8 +47,8 @@ conclude-requires c =
 pub returns : goal.returns
 returns c =
     let p = c.args.problem.now in
-    let t = fronts p c.variables.result c.rows-m.result c.vars.result.now c.row-ends.result.now c.first-values-values.result c.all-ends-ends.result c.first-lines-lines.result
-    c.variables.ensures.value c.rows-m.ensures.value c.vars.ensures c.row-ends.ensures
-    (c.first-values-values.ensures ∙ ap (λ (x : List Span). lowers x ++ replicate (24 - length x) (pos 0)) c.vars-2.ensures)
-    c.all-ends-ends.ensures c.first-lines-lines.ensures.value c.first-lines-lines.ensures.ok in
+    let t = fronts p c.variables.result c.rows-m.result c.vars.result.now c.row_ends.result.now c.first_values-values.result c.all_ends-ends.result c.first_lines-lines.result
+    c.variables.ensures.value c.rows-m.ensures.value c.vars.ensures c.row_ends.ensures
+    (c.first_values-values.ensures ∙ ap (λ (x : List Span). lowers x ++ replicate (24 - length x) (pos 0)) c.vars-2.ensures)
+    c.all_ends-ends.ensures c.first_lines-lines.ensures.value c.first_lines-lines.ensures.ok in
     c.conclude.ensures ∙ same_run c.args.limit (rows_of p) (box_of p) _ _ _ _ t.ends_are t.long t.values_are t.lines_are

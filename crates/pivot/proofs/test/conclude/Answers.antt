@@ -1,5 +1,5 @@
-use Rattle.std.proofs.Common.{◌≡◌, ℕ, ◌≤◌, map, length, get_or, take, sym, refl, ap, ◌∙◌, subst, arith}
-use Rattle.problems.specs.View.{box_of, rows_of}
+use Rattle.std.proofs.Common.{◌≡◌, ℕ, map, length, get_or, take, sym, subst, arith}
+use Rattle.problems.specs.View.{box_of}
 use Rattle.problems.proofs.Views.{proper, vars_long, rows_long}
 use Rattle.tableau.specs.Lines.{blank}
 use Rattle.tableau.specs.Tableau.{Tableau}

@@ -5,11 +5,11 @@ use Rattle.problems.specs.Stated.{without_rows}
 use Rattle.problems.proofs.Builds.{table_front, table_long}
 use Rattle.problems.proofs.build.rowless.Goals as goal
 
-pub invariant-of-vars : goal.invariant-of-vars
-invariant-of-vars c =
+pub invariant_of-vars : goal.invariant_of-vars
+invariant_of-vars c =
     let ss = c.args.spans.now in
     let front : take (length ss) c.table.result ≡ ss = ap (take (length ss)) c.table.ensures ∙ table_front ss 12 nowhere in
-    (c.requires.few, (ap length c.table.ensures ∙ table_long ss 12 nowhere c.requires.few, (ap spans_proper front ∙ c.requires.proper, tt)))
+    record { few = c.requires.few; long = ap length c.table.ensures ∙ table_long ss 12 nowhere c.requires.few; proper = ap spans_proper front ∙ c.requires.proper }
 
 pub returns : goal.returns
 returns c =

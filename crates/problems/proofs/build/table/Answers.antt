@@ -1,4 +1,4 @@
-use Rattle.std.proofs.Common.{◌-◌, set, replicate, ap, ◌∙◌, arith}
+use Rattle.std.proofs.Common.{set, replicate, ap, ◌∙◌, arith}
 use Rattle.problems.proofs.Builds.{table_more, table_all}
 use Rattle.problems.proofs.build.table.Goals as goal
 

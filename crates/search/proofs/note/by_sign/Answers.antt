@@ -6,7 +6,7 @@ pub loop-i-init : goal.loop-i-init
 loop-i-init c = none_written _ _ _ refl (neither_marked 12)
 
 pub loop-i-preserved : goal.loop-i-preserved
-loop-i-preserved c = one_written _ _ _ _ _ c.loop-i.invariant (omega arith) c.sign-sides.ensures
+loop-i-preserved c = one_written _ _ _ _ _ c.loop-i.invariant (omega arith) c.sign_sides.ensures
 
 pub returns : goal.returns
 returns c = all_written _ _ _ _ c.loop-i.invariant (λ side k h. sign_past c.args.ms.now side k (omega arith))

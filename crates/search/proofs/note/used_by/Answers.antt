@@ -7,8 +7,8 @@ use Rattle.testers.specs.Told.{leaf_in}
 use Rattle.problems.proofs.Tests.{and_true}
 use Rattle.search.proofs.note.used_by.Goals as goal
 
-pub used-by-divisor-requires : goal.used-by-divisor-requires
-used-by-divisor-requires c =
+pub used_by_divisor-requires : goal.used_by_divisor-requires
+used_by_divisor-requires c =
     let p = c.args.problem.now in
     let i = c.in-Divisor.row in
     let g = c.in-Divisor.g in

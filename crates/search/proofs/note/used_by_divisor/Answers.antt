@@ -4,12 +4,12 @@ use Rattle.problems.proofs.Views.{proper}
 use Rattle.problems.proofs.Propers.{row_length}
 use Rattle.search.proofs.note.used_by_divisor.Goals as goal
 
-pub by-fixed-requires : goal.by-fixed-requires
-by-fixed-requires c =
+pub by_fixed-requires : goal.by_fixed-requires
+by_fixed-requires c =
     let p = c.args.problem.now in
     let coefs : length c.coefs.result.now ≡ length (box_of p).vars = ap length c.coefs.ensures ∙ row_length _ (rows_of p) c.args.row (proper p).coefficients c.requires in
     let vars : length c.vars.result.now ≡ length (box_of p).vars = ap length c.vars.ensures in
     (omega (arith, (proper p).few_variables), coefs ∙ sym vars)
 
-pub both-of-requires : goal.both-of-requires
-both-of-requires c = omega (arith, (proper c.args.problem.now).few_rows)
+pub both_of-requires : goal.both_of-requires
+both_of-requires c = omega (arith, (proper c.args.problem.now).few_rows)

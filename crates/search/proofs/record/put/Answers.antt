@@ -4,4 +4,4 @@ use Rattle.search.proofs.record.put.Goals as goal
 
 pub returns : goal.returns
 returns c =
-    record { «record» = part_wrote c.args.at _ c.args.piece.now c.args.bytes.now _ c.copy-from-slice.ensures.after (omega arith) }
+    record { «record» = part_wrote c.args.at _ c.args.piece.now c.args.bytes.now _ c.copy_from_slice.ensures.after (omega arith) }

@@ -7,11 +7,11 @@ use Rattle.search.proofs.record.standing.Goals as goal
 pub loop-i-init : goal.loop-i-init
 loop-i-init c = ap map_of (sym (drop_all (length c.args.ms.now) c.args.ms.now (omega arith)))
 
-pub overflow-mul-map : goal.overflow-mul-map
-overflow-mul-map c = let s = rest_small c.args.ms.now c.loop-i.i c.requires.few in search rules
+pub overflow_mul-map : goal.overflow_mul-map
+overflow_mul-map c = let s = rest_small c.args.ms.now c.loop-i.i c.requires.few in search rules
 
-pub overflow-add-map : goal.overflow-add-map
-overflow-add-map c = let s = rest_small c.args.ms.now c.loop-i.i c.requires.few in search rules
+pub overflow_add-map : goal.overflow_add-map
+overflow_add-map c = let s = rest_small c.args.ms.now c.loop-i.i c.requires.few in search rules
 
 pub loop-i-preserved-then-ms-i-ne0 : goal.loop-i-preserved-then-ms-i-ne0
 loop-i-preserved-then-ms-i-ne0 c =

@@ -4,8 +4,8 @@ use Rattle.search.proofs.Maps.{stands, missing}
 use Rattle.search.proofs.record.write_multipliers.Goals as goal
 use Rattle.search.proofs.record.write_multipliers.Goals.{then-y-ne0, else-y-ne0}
 
-pub big-endian-requires : goal.big-endian-requires
-big-endian-requires c =
+pub big_endian-requires : goal.big_endian-requires
+big_endian-requires c =
     let s = within_at 1000000000 c.args.ms.now c.requires.small c.loop-y.y-index in
     record { small = rw (back _ s) s }
 
@@ -19,7 +19,7 @@ loop-y-preserved c =
     elim c.if-y-ne0.branch [
       | then-y-ne0 w ↦
           one_on ms i _ _ _ _ _ _ _ c.loop-y-test.true (stands (get_or ms i (pos 0)) w.if-y-ne0.true) small room
-          w.big-endian.ensures.value (w.bytes-is ∙ w.put.ensures.«record») w.next-is c.loop-y.invariant
+          w.big_endian.ensures.value (w.bytes-is ∙ w.put.ensures.«record») w.next-is c.loop-y.invariant
       | else-y-ne0 w ↦
           none_on ms i _ _ _ _ _ _ c.loop-y-test.true (missing (get_or ms i (pos 0)) f w.if-y-ne0.false) w.bytes-is w.next-is c.loop-y.invariant
     ]

@@ -39,7 +39,7 @@ loop-walk-preserved g c =
     let w = c.loop-walk.walk in
     let slots = c.loop-walk.stack.slots.now in
     let len = c.loop-walk.stack.len in
-    let e = c.in-default.ensures in (
+    let e = c.in_default.ensures in (
       goes_on (g.T.Tester.meaning c.args.tester.now) root c.args.budget c.args.bytes.now c.args.stack.now.slots.now w c.step.new.walk c.loop-walk.bytes c.step.new.bytes
           slots c.step.new.stack.slots.now len c.step.new.stack.len i.0 c.loop-walk-test.true e.moved
           (λ further. ap (λ (m : Meaning). told (rows_of root) (box_of root) further (state_of w c.loop-walk.bytes (take len slots)) (m (rows_of root) (box_of w.at))) (sym i.1) ∙ e.goes further),

@@ -15,14 +15,14 @@ use Rattle.search.specs.Shown.{found_of}
 use Rattle.search.proofs.Answered.{truthful, asked_refused, asked_granted, boxes_are, room_for, front_and_rest, all_blank}
 use Rattle.search.proofs.search_box.search_box.Goals as goal
 
-pub returns-in-err-boxes : goal.returns-in-err-boxes
-returns-in-err-boxes g c =
+pub returns-in_err-boxes : goal.returns-in_err-boxes
+returns-in_err-boxes g c =
     let m = g.T.Tester.meaning c.args.tester.now in
     let p = c.args.problem.now in
     let bytes = c.args.bytes.now in
     let path = c.args.path.now in
-    let q = err_from_is_err_and c.from-residual.result c.from-residual.ensures.1 in
-    let h = rw (to_z-of_z w64 c.args.budget c.ranges.budget) at c.in-err-boxes.ensures in
+    let q = err_from_is_err_and c.from_residual.result c.from_residual.ensures.1 in
+    let h = rw (to_z-of_z w64 c.args.budget c.ranges.budget) at c.in_err-boxes.ensures in
     let a = asked_refused m p c.args.budget (length bytes) (length path) _ h in
     let r = q.1 ∙ ap (λ (x : Refused). Err x) q.2 in
     record {
@@ -40,8 +40,8 @@ returns g c =
     let p = c.args.problem.now in
     let bytes = c.args.bytes.now in
     let path = c.args.path.now in
-    let h = rw (to_z-of_z w64 c.args.budget c.ranges.budget) at c.in-ok-boxes.ensures in
-    let boxes = c.in-ok-boxes.boxes in
+    let h = rw (to_z-of_z w64 c.args.budget c.ranges.budget) at c.in_ok-boxes.ensures in
+    let boxes = c.in_ok-boxes.boxes in
     let a = asked_granted m p c.args.budget (length bytes) (length path) boxes h in
     let f = c.run-found.result in
     let bytes' = c.run-found.new.bytes in

@@ -1,4 +1,4 @@
-use Rattle.std.proofs.Common.{◌≡◌, sym, ap, ◌∙◌, subst, arith}
+use Rattle.std.proofs.Common.{sym, ap, ◌∙◌, subst, arith}
 use Rattle.testers.specs.Gcd.{gcd, GreatestCommon}
 use Rattle.testers.proofs.Gcds.{gcd_step, gcd_is_greatest}
 use Rattle.testers.proofs.gcd.gcd.Goals as goal

@@ -15,10 +15,10 @@ point_is rows box e f =
     ap (λ (b : Bool). cond b (point (lowers box.vars)) (middle_split box.vars)) f
     ∙ ap (λ (o : Option Leaf). unless o (cond (all_fixed box.vars) (point (lowers box.vars)) (middle_split box.vars))) e
 
-pub returns-then-all-fixed : goal.returns-then-all-fixed
-returns-then-all-fixed c =
+pub returns-then-all_fixed : goal.returns-then-all_fixed
+returns-then-all_fixed c =
     let p = c.args.problem.now in
     let n = p.ends.vars.n in
-    ap (λ (x : List ℤ). point (take n x)) (c.lowers-of.ensures ∙ ap (λ (ss : List Span). lowers ss ++ replicate (12 - length ss) (pos 0)) c.vars.ensures)
+    ap (λ (x : List ℤ). point (take n x)) (c.lowers_of.ensures ∙ ap (λ (ss : List Span). lowers ss ++ replicate (12 - length ss) (pos 0)) c.vars.ensures)
     ∙ ap point (lowers_say 12 (box_of p).vars n (vars_long p.ends.vars))
-    ∙ point_is (rows_of p) (box_of p) c.in-default.ensures.value c.if-all-fixed.ensures
+    ∙ point_is (rows_of p) (box_of p) c.in_default.ensures.value c.if-all_fixed.ensures

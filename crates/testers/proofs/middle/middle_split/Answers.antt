@@ -4,5 +4,5 @@ use Rattle.problems.proofs.Views.{proper}
 use Rattle.testers.proofs.Extremes.{span_at}
 use Rattle.testers.proofs.middle.middle_split.Goals as goal
 
-pub middle-of-requires : goal.middle-of-requires
-middle-of-requires c = span_at c.vars-vars.result.now c.widest-of-v.result (ap spans_proper c.vars-vars.ensures ∙ (proper c.args.problem.now).spans)
+pub middle_of-requires : goal.middle_of-requires
+middle_of-requires c = span_at c.vars-vars.result.now c.widest_of-v.result (ap spans_proper c.vars-vars.ensures ∙ (proper c.args.problem.now).spans)

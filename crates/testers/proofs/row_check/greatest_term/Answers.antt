@@ -6,11 +6,11 @@ use Rattle.testers.proofs.Products.{term_fits, term_back, term_small}
 use Rattle.testers.proofs.Extremes.{most_upper, most_lower}
 use Rattle.testers.proofs.row_check.greatest_term.Goals as goal
 
-pub overflow-mul-result : goal.overflow-mul-result
-overflow-mul-result c = term_fits c.args.a c.args.s.upper c.requires.coefficient (span_from c.args.s c.requires.proper).2
+pub overflow_mul-result : goal.overflow_mul-result
+overflow_mul-result c = term_fits c.args.a c.args.s.upper c.requires.coefficient (span_from c.args.s c.requires.proper).2
 
-pub overflow-mul-result-else-a-gt0 : goal.overflow-mul-result-else-a-gt0
-overflow-mul-result-else-a-gt0 c = term_fits c.args.a c.args.s.lower c.requires.coefficient (span_from c.args.s c.requires.proper).1
+pub overflow_mul-result-else-a-gt0 : goal.overflow_mul-result-else-a-gt0
+overflow_mul-result-else-a-gt0 c = term_fits c.args.a c.args.s.lower c.requires.coefficient (span_from c.args.s c.requires.proper).1
 
 pub returns-then-a-gt0 : goal.returns-then-a-gt0
 returns-then-a-gt0 c =

@@ -4,13 +4,13 @@ use Rattle.testers.proofs.Extremes.{coef_at}
 use Rattle.testers.proofs.RowLeaves.{product_fits, turned_fits, turned_back, fill_next, filled}
 use Rattle.testers.proofs.row_check.multipliers.Goals as goal
 
-pub overflow-mul-all : goal.overflow-mul-all
-overflow-mul-all c =
+pub overflow_mul-all : goal.overflow_mul-all
+overflow_mul-all c =
     let r = c.args.coefs.now in
     product_fits c.args.z (get_or r c.loop-j.j (pos 0)) c.requires.sign (coef_at r c.loop-j.j c.requires.coefficients)
 
-pub overflow-sub-all : goal.overflow-sub-all
-overflow-sub-all c =
+pub overflow_sub-all : goal.overflow_sub-all
+overflow_sub-all c =
     let r = c.args.coefs.now in
     turned_fits c.args.z (get_or r c.loop-j.j (pos 0)) c.requires.sign (coef_at r c.loop-j.j c.requires.coefficients)
 

@@ -27,11 +27,11 @@ row_ok p r i e h =
     let l : length r ≡ length (box_of p).vars = ap length e ∙ row.0 in
     (ap (all_within 100) e ∙ row.1, l, omega (arith, (proper p).few_variables))
 
-pub failing-sign-requires : goal.failing-sign-requires
-failing-sign-requires c =
+pub failing_sign-requires : goal.failing_sign-requires
+failing_sign-requires c =
     let p = c.args.problem.now in
     let i = c.loop-i.i in
-    let row = row_ok p c.coefs-coefs.result.now i c.coefs-coefs.ensures (is_row p _ i c.row-ends-ends.ensures c.loop-i-test.true) in
+    let row = row_ok p c.coefs-coefs.result.now i c.coefs-coefs.ensures (is_row p _ i c.row_ends-ends.ensures c.loop-i-test.true) in
     record {
       coefficients = row.0;
       proper = ap spans_proper c.vars-vars.ensures ∙ (proper p).spans;
@@ -43,9 +43,9 @@ pub multipliers-requires : goal.multipliers-requires
 multipliers-requires c =
     let p = c.args.problem.now in
     let i = c.loop-i.i in
-    let there = is_row p _ i c.row-ends-ends.ensures c.loop-i-test.true in
+    let there = is_row p _ i c.row_ends-ends.ensures c.loop-i-test.true in
     let row = row_ok p c.coefs-coefs.result.now i c.coefs-coefs.ensures there in
-    let s = sign_small c.coefs-coefs.result.now c.vars-vars.result.now (get_or c.row-ends-ends.result.now i no_ends) c.in-Some.z c.in-Some.ensures in
+    let s = sign_small c.coefs-coefs.result.now c.vars-vars.result.now (get_or c.row_ends-ends.result.now i no_ends) c.in-Some.z c.in-Some.ensures in
     record { coefficients = row.0; few = row.2; row = omega (arith, (proper p).few_rows); sign = rw (back c.in-Some.z (omega arith)) s }
 
 pub returns-in-Some : goal.returns-in-Some
@@ -56,8 +56,8 @@ returns-in-Some c =
     let r = get_or (rows_of p) i [] in
     let n = p.ends.vars.n in
     let m = p.ends.m in
-    let there = is_row p _ i c.row-ends-ends.ensures c.loop-i-test.true in
-    let told = sign_told (Some z) _ r _ (box_of p).vars _ (box_of p).rows i c.coefs-coefs.ensures c.vars-vars.ensures c.row-ends-ends.ensures c.in-Some.ensures in
+    let there = is_row p _ i c.row_ends-ends.ensures c.loop-i-test.true in
+    let told = sign_told (Some z) _ r _ (box_of p).vars _ (box_of p).rows i c.coefs-coefs.ensures c.vars-vars.ensures c.row_ends-ends.ensures c.in-Some.ensures in
     let s = sign_small r (box_of p).vars (get_or (box_of p).rows i no_ends) z told in
     let made = multipliers_told c.multipliers.result _ z _ r i (back z (omega arith)) c.coefs-coefs.ensures c.multipliers.ensures in
     record {
@@ -73,11 +73,11 @@ pub loop-i-preserved : goal.loop-i-preserved
 loop-i-preserved c =
     let p = c.args.problem.now in
     let i = c.loop-i.i in
-    let there = is_row p _ i c.row-ends-ends.ensures c.loop-i-test.true in
-    let told = sign_told None _ _ _ (box_of p).vars _ (box_of p).rows i c.coefs-coefs.ensures c.vars-vars.ensures c.row-ends-ends.ensures c.in-default.ensures in
+    let there = is_row p _ i c.row_ends-ends.ensures c.loop-i-test.true in
+    let told = sign_told None _ _ _ (box_of p).vars _ (box_of p).rows i c.coefs-coefs.ensures c.vars-vars.ensures c.row_ends-ends.ensures c.in_default.ensures in
     passes_at (box_of p).vars (length (rows_of p)) i (rows_of p) (box_of p).rows there (omega (arith, row_ends_long p, rows_long p)) told ∙ c.loop-i.invariant
 
 pub returns : goal.returns
 returns c =
     let p = c.args.problem.now in
-    record { value = none_left (box_of p).vars (length (rows_of p)) c.loop-i.i (rows_of p) (box_of p).rows (no_row p _ c.loop-i.i c.row-ends-ends.ensures c.loop-i-test.false) ∙ c.loop-i.invariant; leaf = lawful_leaf_means_no_plan }
+    record { value = none_left (box_of p).vars (length (rows_of p)) c.loop-i.i (rows_of p) (box_of p).rows (no_row p _ c.loop-i.i c.row_ends-ends.ensures c.loop-i-test.false) ∙ c.loop-i.invariant; leaf = lawful_leaf_means_no_plan }

@@ -1,4 +1,4 @@
-use Rattle.std.proofs.Common.{◌≡◌, ℕ, ◌*◌, ◌≤◌, length, ap, ◌∙◌, arith, w64}
+use Rattle.std.proofs.Common.{◌≡◌, ℕ, ◌*◌, ap, ◌∙◌, arith, w64}
 use Rattle.std.proofs.lemmas.Int.{to_z-of_z}
 use Rattle.zimborae.specs.Desk.{lent_for}
 use Rattle.zimborae.proofs.Lends.{lent_small, lent_long, answer_within}
@@ -9,9 +9,9 @@ returns c =
     let budget = c.args.budget in
     let bytes = c.args.bytes.now in
     let path = c.args.path.now in
-    let boxes = c.boxes-of-boxes.result in
+    let boxes = c.boxes_of-boxes.result in
     let same = to_z-of_z w64 budget c.ranges.budget in
-    let few : boxes ≡ lent_for budget = c.boxes-of-boxes.ensures.value ∙ ap lent_for same in
+    let few : boxes ≡ lent_for budget = c.boxes_of-boxes.ensures.value ∙ ap lent_for same in
     let small = lent_small budget in
     record {
       answer =

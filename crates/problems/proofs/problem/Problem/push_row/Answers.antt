@@ -1,4 +1,4 @@
-use Rattle.std.proofs.Common.{◌<◌, ap, ◌∙◌, arith, lit<}
+use Rattle.std.proofs.Common.{ap, ◌∙◌, arith, lit<}
 use Rattle.std.proofs.lemmas.List.{length-set, take-set}
 use Rattle.problems.specs.Ranges.{row_ends_proper, row_proper}
 use Rattle.problems.proofs.Builds.{Addable, addable, padded_proper, rows_set, ends_more, stated_more}
@@ -16,16 +16,16 @@ bounds-self-m c = (addable c.args.coefs.now c.args.ends c.args.self.now c.requir
 pub bounds-self-m-2 : goal.bounds-self-m-2
 bounds-self-m-2 c = (addable c.args.coefs.now c.args.ends c.args.self.now c.requires).room
 
-pub invariant-of-self : goal.invariant-of-self
-invariant-of-self c =
+pub invariant_of-self : goal.invariant_of-self
+invariant_of-self c =
     let p = c.args.self.now in
     let av = c.args.coefs.now in
     let a : Addable av c.args.ends p = addable av c.args.ends p c.requires in
     let row = ap (row_proper 12) c.table.ensures ∙ padded_proper av (omega (arith, a.long, p.ends.vars.few)) a.small in
-    (length-set p.rows p.ends.m _ ∙ p.long, (rows_set p.rows p.ends.m _ p.proper row, tt))
+    record { long = length-set p.rows p.ends.m _ ∙ p.long; proper = rows_set p.rows p.ends.m _ p.proper row }
 
-pub invariant-of-self-2 : goal.invariant-of-self-2
-invariant-of-self-2 c =
+pub invariant_of-self-2 : goal.invariant_of-self-2
+invariant_of-self-2 c =
     let p = c.args.self.now in
     let av = c.args.coefs.now in
     let a : Addable av c.args.ends p = addable av c.args.ends p c.requires in
@@ -35,8 +35,8 @@ invariant-of-self-2 c =
       (length-set p.rows p.ends.m _ ∙ p.long, (rows_set p.rows p.ends.m _ p.proper row, tt)),
     )
 
-pub invariant-of-self-3 : goal.invariant-of-self-3
-invariant-of-self-3 c =
+pub invariant_of-self-3 : goal.invariant_of-self-3
+invariant_of-self-3 c =
     let p = c.args.self.now in
     let av = c.args.coefs.now in
     let a : Addable av c.args.ends p = addable av c.args.ends p c.requires in

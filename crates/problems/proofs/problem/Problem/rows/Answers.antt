@@ -3,4 +3,4 @@ use Rattle.problems.proofs.Views.{proper}
 use Rattle.problems.proofs.problem.Problem.rows.Goals as goal
 
 pub returns : goal.returns
-returns c = record { value = ap length c.row-ends.ensures ∙ (proper c.args.self.now).ends_of_rows }
+returns c = record { value = ap length c.row_ends.ensures ∙ (proper c.args.self.now).ends_of_rows }

@@ -7,27 +7,28 @@ use Rattle.problems.proofs.Cuts.{among, under, cut_high, facts_kept}
 use Rattle.problems.proofs.vars.Vars.above.Goals as goal
 
 pub span-requires : goal.span-requires
-span-requires c = among c.args.self.now c.args.cut.0 c.args.cut.1 (sym c.splits_at.ensures ∙ c.if-not-splits-at.false)
+span-requires c = among c.args.self.now c.args.cut.0 c.args.cut.1 (sym c.splits_at.ensures ∙ c.if-not-splits_at.false)
 
 pub above-requires : goal.above-requires
 above-requires c =
-    let h = sym c.splits_at.ensures ∙ c.if-not-splits-at.false in
+    let h = sym c.splits_at.ensures ∙ c.if-not-splits_at.false in
     rw c.span.ensures.value (under c.args.self.now c.args.cut.0 c.args.cut.1 h)
 
-pub invariant-of-result : goal.invariant-of-result
-invariant-of-result c =
+pub invariant_of-result : goal.invariant_of-result
+invariant_of-result c =
     let t = c.args.self.now in
     let v = c.args.cut.0 in
     let k = c.args.cut.1 in
-    let h = sym c.splits_at.ensures ∙ c.if-not-splits-at.false in
+    let h = sym c.splits_at.ensures ∙ c.if-not-splits_at.false in
     let e = cut_high t v k c.above.result h (c.above.ensures ∙ ap (λ (s : Span). record { lower = c.args.cut.1 +ℤ pos 1; upper = s.upper }) c.span.ensures.value) in
-    facts_kept t v c.above.result (high v k (vars_in t)) e (high_range v k (vars_in t) h t.proper)
+    let kept = facts_kept t v c.above.result (high v k (vars_in t)) e (high_range v k (vars_in t) h t.proper) in
+    record { few = kept.0; long = kept.1; proper = kept.2 }
 
 pub returns : goal.returns
 returns c =
     let t = c.args.self.now in
     let v = c.args.cut.0 in
     let k = c.args.cut.1 in
-    let h = sym c.splits_at.ensures ∙ c.if-not-splits-at.false in
+    let h = sym c.splits_at.ensures ∙ c.if-not-splits_at.false in
     let e = cut_high t v k c.above.result h (c.above.ensures ∙ ap (λ (s : Span). record { lower = c.args.cut.1 +ℤ pos 1; upper = s.upper }) c.span.ensures.value) in
     ap Some e ∙ ap (λ (b : Bool). cond {A = Option (List Span)} b (Some (high v k (vars_in t))) None) (sym h)
