@@ -1,7 +1,7 @@
 -- A walk from its first box on is the search of that box.
 use Rattle.std.proofs.Common.{◌≡◌, ℕ, suc, ◌+◌, ◌-◌, ◌*◌, ◌<◌, ◌≤◌, List, [], ◌++◌, length, take, drop, replicate, sym, refl, ap, ◌∙◌, subst, arith}
 use Rattle.std.proofs.lemmas.List.{drop-drop}
-use Rattle.std.specs.List.{AllByRecursion as All}
+use Rattle.std.specs.List.{AllByRecursion}
 use Rattle.problems.specs.declared.problem.Problem.{Problem}
 use Rattle.testers.specs.Tester.{Meaning}
 use Rattle.problems.specs.View.{box_of, rows_of}
@@ -42,7 +42,7 @@ begins m root budget bytes slots len v is z e =
     record {
       goes = ap (search_on m (rows_of root) (box_of root) (budget - 0)) s ∙ ap (λ k. search_on m (rows_of root) (box_of root) k (nothing_yet (box_of root))) b;
       within = omega arith;
-      ready = record { count = refl; rows = refl; row_ends = refl; each = subst (All (Splits root.ends.vars.n)) (sym none_open) tt };
+      ready = record { count = refl; rows = refl; row_ends = refl; each = subst (AllByRecursion (Splits root.ends.vars.n)) (sym none_open) tt };
       room = omega arith;
       kept = refl;
       few = omega arith;

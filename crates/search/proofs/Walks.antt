@@ -1,6 +1,6 @@
 -- A step of the walk in the code is a step of the search.
 use Rattle.std.proofs.Common.{◌≡◌, ℕ, suc, ◌+◌, ◌-◌, ◌<◌, ◌≤◌, max, Bool, true, cond, eqb, List, [], ◌∷◌, ◌++◌, map, reverse, length, get_or, take, drop, set, replicate, ℤ, Some, None, Ok, Err, Option, Result, sym, refl, ap, ◌∙◌, subst, ⊎_elim, add-one, arith, length-set, drop-cons, get_or-set_same}
-use Rattle.std.specs.List.{AllByRecursion as All}
+use Rattle.std.specs.List.{AllByRecursion}
 use Rattle.std.proofs.lemmas.List.{length-map, length-take-le, length-reverse, reverse-append, take_more, take_more_set, drop-set-lt, drop-drop, take-set}
 use Rattle.std.proofs.ByRecursion.{All-push}
 use Rattle.std.proofs.lemmas.Bool.{cases_lt}
@@ -76,19 +76,19 @@ popped xs ys n m b h l e p =
     let j : n ≡ m + 1 = omega arith in
     ap (λ i. take i xs) j ∙ take_more xs m b (omega arith) ∙ ap (λ (zs : List _). zs ++ (get_or xs m b ∷ [])) (sym (ap (take m) p ∙ take-set xs m b))
 
-pub all_front : {X : Type 0} (P : X → Type 0) (xs ys : List X) → All P (xs ++ ys) → All P xs
+pub all_front : {X : Type 0} (P : X → Type 0) (xs ys : List X) → AllByRecursion P (xs ++ ys) → AllByRecursion P xs
 all_front P [] ys h = tt
 all_front P (x ∷ xs) ys h = (h.0, all_front P xs ys h.1)
 
-pub all_last : {X : Type 0} (P : X → Type 0) (xs : List X) (y : X) → All P (xs ++ (y ∷ [])) → P y
+pub all_last : {X : Type 0} (P : X → Type 0) (xs : List X) (y : X) → AllByRecursion P (xs ++ (y ∷ [])) → P y
 all_last P [] y h = h.0
 all_last P (x ∷ xs) y h = all_last P xs y h.1
 
 -- what holds of every entry holds of the one that is taken off
-pub top_holds : {E : Type 0} (P : E → Type 0) (xs ys : List E) (n m : ℕ) (b o : E) → 0 < n → n ≤ length xs → m ≡ n - 1 → ys ≡ set xs (n - 1) b → o ≡ get_or xs (n - 1) b → All P (take n xs) → P o
+pub top_holds : {E : Type 0} (P : E → Type 0) (xs ys : List E) (n m : ℕ) (b o : E) → 0 < n → n ≤ length xs → m ≡ n - 1 → ys ≡ set xs (n - 1) b → o ≡ get_or xs (n - 1) b → AllByRecursion P (take n xs) → P o
 top_holds P xs ys n m b o h l e p q a =
     let t = popped xs ys n m b h l e (p ∙ ap (λ i. set xs i b) (sym e)) in
-    subst P (ap (λ i. get_or xs i b) e ∙ sym q) (all_last P (take m ys) (get_or xs m b) (subst (All P) t a))
+    subst P (ap (λ i. get_or xs i b) e ∙ sym q) (all_last P (take m ys) (get_or xs m b) (subst (AllByRecursion P) t a))
 
 -- ---- boxes
 
@@ -170,7 +170,7 @@ module _ (w : Walk) (bs bs' : List ℕ) (xs ys : List OpenSplit) (n m : ℕ) (v 
               count = c ∙ r.count;
               rows = same ∙ r.rows;
               row_ends = ap (λ (x : Box). x.rows) half ∙ r.row_ends;
-              each = subst (All (Splits root.ends.vars.n)) (sym entries)
+              each = subst (AllByRecursion (Splits root.ends.vars.n)) (sym entries)
                   (All-push (Splits root.ends.vars.n) (take n xs) e r.each (subst (Splits root.ends.vars.n) (sym e-is) (r.count, cuts)));
             };
         blanks = λ path bl. rw (d-is, m-is) (blanks_pushed path xs ys w.deepest n e put bl);
@@ -215,7 +215,7 @@ module _ (root : Problem) (w : Walk) (bs bs' : List ℕ) (xs ys : List OpenSplit
         kept = leaf_kept;
         place = omega arith;
         long = ap length same;
-        ready = λ r h. record { count = h.count; rows = h.rows; row_ends = h.row_ends; each = subst (All (Splits r.ends.vars.n)) (sym here) h.each };
+        ready = λ r h. record { count = h.count; rows = h.rows; row_ends = h.row_ends; each = subst (AllByRecursion (Splits r.ends.vars.n)) (sym here) h.each };
         blanks = λ path bl. rw (same, e) bl;
       }
 
@@ -249,7 +249,7 @@ module _ (root : Problem) (w : Walk) (bs bs' : List ℕ) (xs ys : List OpenSplit
           place = omega arith;
           long = ap length off ∙ length-set xs (n - 1) blank_split;
           ready = λ r h.
-              let all = subst (All (Splits r.ends.vars.n)) entries_were h.each in
+              let all = subst (AllByRecursion (Splits r.ends.vars.n)) entries_were h.each in
               let mine = all_last (Splits r.ends.vars.n) (take m ys) o all in
               let c : length (box_of at).vars ≡ r.ends.vars.n
               = ap (λ (x : Box). length x.vars) half ∙ length_high o.variable o.at (vars_in o.vars) ∙ vars_long o.vars ∙ mine.0 in

@@ -1,6 +1,6 @@
 -- The walk in the code: the search that it stands for, and what a step may change.
 use Rattle.std.specs.Prelude.{◌≡◌, ℕ, ◌+◌, ◌-◌, ◌≤◌, true, List, ◌++◌, map, reverse, length, take, drop, replicate, pos, Some, None, Option}
-use Rattle.std.specs.List.{AllByRecursion as All}
+use Rattle.std.specs.List.{AllByRecursion}
 use Rattle.problems.specs.declared.problem.Problem.{Problem}
 use Rattle.problems.specs.Blank.{no_vars}
 use Rattle.problems.specs.Box.{Box, splits, with_vars}
@@ -49,7 +49,7 @@ pub record Ready (root at : Problem) (opens : List OpenSplit) : Type 0 where
   pub count : at.ends.vars.n ≡ root.ends.vars.n
   pub rows : rows_of at ≡ rows_of root
   pub row_ends : (box_of at).rows ≡ (box_of root).rows
-  pub each : All (Splits root.ends.vars.n) opens
+  pub each : AllByRecursion (Splits root.ends.vars.n) opens
 
 abbrev pub blank_split : OpenSplit
 blank_split = record { variable = 0; at = pos 0; vars = no_vars }
