@@ -4,8 +4,8 @@
 usage: python3 tools/respell.py [--dry]     at the top of the repository, once
 
 What a file of specs/ or proofs/ defines (definitions, lemmas, fields, constructors, names given by `as`) is turned
-wherever it stands in .antt files, in clauses and ghost items of .rt files, and in must-fail edits. Names of goals,
-which the check makes, and names of the libraries stay. Prints the names that fall together with another.
+wherever it stands in .antt files and in clauses and ghost items of .rt files; no must-fail edit names one. Names of
+goals, which the check makes, and names of the libraries stay. Prints the names that fall together with another.
 """
 
 import collections

@@ -1,3 +1,12 @@
+//! The pivot tester: general simplex over whole-number tableaux, by Bland's rule. What it means is defined in the crate
+//! `tableau`, and proved there to keep the laws of a tester.
+//!
+//! | module | has |
+//! |---|---|
+//! | `start`, `choose`, `exchange`, `run` | the first tableau, the two choices of a pivot, the pivot, and a run of them |
+//! | `numbers` | rows of numbers and their reduced form |
+//! | `settle` | what the last tableau says |
+//! | `test`, `tester` | the answer, and the tester |
 #![tactic(auto)]
 
 mod choose;

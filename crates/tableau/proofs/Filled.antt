@@ -8,7 +8,7 @@ use Rattle.std.proofs.lemmas.List.{length-set, get_or-set_same, get_or-set_other
 use Rattle.problems.specs.Rows.{dot, scale}
 use Rattle.problems.proofs.Tests.{eqb_same}
 use Rattle.testers.specs.Ring.{out, lin, mul_mono, mul_assoc}
-use Rattle.testers.specs.Dots.{dot_cons, get_d_tail}
+use Rattle.testers.specs.Dots.{dot_cons, get_or_drop_one}
 use Rattle.testers.specs.Halves.{length_scale}
 use Rattle.tableau.specs.declared.line.Line.{Line}
 use Rattle.tableau.specs.Lines.{blank, den}
@@ -130,7 +130,7 @@ filled_own (l ∷ ls) z a (suc i) h k =
 dot_alike : (c x y : List ℤ) → ((j : ℕ) → get_or c j (pos 0) *ℤ get_or x j (pos 0) ≡ get_or c j (pos 0) *ℤ get_or y j (pos 0)) → dot c x ≡ dot c y
 dot_alike [] x y h = refl
 dot_alike (c ∷ cs) x y h =
-    omega (arith, lin, dot_cons c cs x, dot_cons c cs y, h 0, dot_alike cs (drop 1 x) (drop 1 y) (λ j. rw (get_d_tail x j (pos 0), get_d_tail y j (pos 0)) (h (suc j))))
+    omega (arith, lin, dot_cons c cs x, dot_cons c cs y, h 0, dot_alike cs (drop 1 x) (drop 1 y) (λ j. rw (get_or_drop_one x j (pos 0), get_or_drop_one y j (pos 0)) (h (suc j))))
 
 own_numbers : (a s b x d t : ℤ) → s +ℤ b *ℤ x ≡ a +ℤ b *ℤ pos 0 → s ≡ d *ℤ t → x *ℤ neg_ℤ b ≡ d *ℤ t → a ≡ pos 0
 own_numbers a s b x d t h e k = let f = simp out at k in omega (arith, lin, *ℤ-zero b)

@@ -42,9 +42,9 @@ pub dot_cons : (a : ℤ) (av x : List ℤ) → dot (a ∷ av) x ≡ a *ℤ get_o
 dot_cons a av [] = omega (arith, ints, *ℤ-zero a, dot_nil av)
 dot_cons a av (x ∷ xs) = refl
 
-pub get_d_tail {ℓ} : {A : Type ℓ} (xs : List A) (i : ℕ) (d : A) → get_or (drop 1 xs) i d ≡ get_or xs (suc i) d
-get_d_tail [] i d = refl
-get_d_tail (x ∷ xs) i d = refl
+pub get_or_drop_one {ℓ} : {A : Type ℓ} (xs : List A) (i : ℕ) (d : A) → get_or (drop 1 xs) i d ≡ get_or xs (suc i) d
+get_or_drop_one [] i d = refl
+get_or_drop_one (x ∷ xs) i d = refl
 
 pub at_values : (rs : List (List ℤ)) (x : List ℤ) (i : ℕ) → get_or (values rs x) i (pos 0) ≡ dot (get_or rs i []) x
 at_values [] x i = refl

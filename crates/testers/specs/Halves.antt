@@ -8,7 +8,7 @@ use Rattle.std.specs.Int.{int_div_euclid}
 use Rattle.std.proofs.lemmas.Int.{by_lt_z, ints}
 use Rattle.testers.specs.Ring.{lin, neg_mul}
 use Rattle.problems.proofs.Tests.{by_bool, by_cond, and_true, both_true, eq_z_true, eq_z_false, eq_z_is, eqb_is, leb_is, lt_z_true, lt_z_false, lt_z_is, le_z_is}
-use Rattle.testers.specs.Dots.{dot_add, dot_scale, dot_comb, dot_nil, dot_cons, get_d_tail, at_values}
+use Rattle.testers.specs.Dots.{dot_add, dot_scale, dot_comb, dot_nil, dot_cons, get_or_drop_one, at_values}
 use Rattle.testers.specs.Leaves.{floor}
 use Rattle.problems.specs.declared.quantity.Span.{Span}
 use Rattle.problems.specs.declared.quantity.RowEnds.{RowEnds}
@@ -39,7 +39,7 @@ pub dot_single : (m i : ℕ) (z : ℤ) (v : List ℤ) → i < m → dot (single 
 dot_single zero i z v h = absurd (not-suc-le-zero h)
 dot_single (suc m) zero z v h = omega (arith, lin, dot_cons z (single m zero (pos 0)) v, dot_none m (drop 1 v))
 dot_single (suc m) (suc i) z v h =
-    let e = ap (λ w. z *ℤ w) (get_d_tail v i (pos 0)) in
+    let e = ap (λ w. z *ℤ w) (get_or_drop_one v i (pos 0)) in
     omega (arith, lin, dot_cons (pos 0) (single m i z) v, zero-*ℤ (slice_index_or v 0 (pos 0)), dot_single m i z (drop 1 v) (le_of_suc-le-suc h), e)
 
 in_cancel : (w z d : ℤ) → w ≡ neg_ℤ z → (w *ℤ d) +ℤ (z *ℤ d) ≡ pos 0

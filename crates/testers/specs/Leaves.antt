@@ -7,7 +7,7 @@ use Rattle.std.specs.Int.{int_div_euclid}
 use Rattle.std.proofs.lemmas.Int.{by_lt_z, ints}
 use Rattle.testers.specs.Ring.{out, mul_mono, mul_anti, mul_add, mul_neg, lin}
 use Rattle.problems.proofs.Tests.{and_true, both_true, or_true, by_bool, eq_z_true, eqb_true, eqb_same, leb_true, lt_z_true, zero_is}
-use Rattle.testers.specs.Dots.{cancels, dot_cons, get_d_tail, at_values}
+use Rattle.testers.specs.Dots.{cancels, dot_cons, get_or_drop_one, at_values}
 use Rattle.problems.specs.declared.quantity.Span.{Span}
 use Rattle.problems.specs.declared.quantity.RowEnds.{RowEnds}
 use Rattle.problems.specs.declared.quantity.Side.{Side}
@@ -32,8 +32,8 @@ pub record MeetsRows (f : Side → ℕ → Bool) (es : List RowEnds) (v : List �
 tail_vars : (y : ℤ) (ys : List ℤ) (ss : List Span) (x : List ℤ) → MeetsVars (by_sign (y ∷ ys)) ss x → MeetsVars (by_sign ys) (drop 1 ss) (drop 1 x)
 tail_vars y ys ss x m =
     record {
-      from = λ i h. rw (get_d_tail ss i nowhere, get_d_tail x i (pos 0)) (m.from (suc i) h);
-      to = λ i h. rw (get_d_tail ss i nowhere, get_d_tail x i (pos 0)) (m.to (suc i) h);
+      from = λ i h. rw (get_or_drop_one ss i nowhere, get_or_drop_one x i (pos 0)) (m.from (suc i) h);
+      to = λ i h. rw (get_or_drop_one ss i nowhere, get_or_drop_one x i (pos 0)) (m.to (suc i) h);
     }
 
 most_is : (y : ℤ) (s : Span) (x : ℤ) → (negative y ≡ true → s.lower ≤ℤ x) → (positive y ≡ true → x ≤ℤ s.upper) → (y *ℤ x) ≤ℤ most y s
@@ -73,7 +73,7 @@ some_is a b e = cc
 
 tail_rows : (z : ℤ) (zs : List ℤ) (e : RowEnds) (es : List RowEnds) (v : List ℤ) → MeetsRows (by_sign (z ∷ zs)) (e ∷ es) v → MeetsRows (by_sign zs) es (drop 1 v)
 tail_rows z zs e es v m =
-    record { from = λ i h. rw (get_d_tail v i (pos 0)) (m.from (suc i) h); to = λ i h. rw (get_d_tail v i (pos 0)) (m.to (suc i) h) }
+    record { from = λ i h. rw (get_or_drop_one v i (pos 0)) (m.from (suc i) h); to = λ i h. rw (get_or_drop_one v i (pos 0)) (m.to (suc i) h) }
 
 up_is : (n : ℕ) (o : Option ℤ) (x t : ℤ) → Below o x → times (pos (suc n)) o ≡ Some t → (pos (suc n) *ℤ x) ≤ℤ t
 up_is n None x t w h = absurd (none_is t h)
@@ -142,7 +142,7 @@ in_zero a x l d f m e h = rw e (omega (arith, lin, zero-*ℤ x, zero-*ℤ l))
 
 tail_fixed : (a : ℤ) (av : List ℤ) (s : Span) (ss : List Span) (x : List ℤ) → MeetsVars (by_fixed (a ∷ av) (s ∷ ss)) (s ∷ ss) x → MeetsVars (by_fixed av ss) ss (drop 1 x)
 tail_fixed a av s ss x m =
-    record { from = λ i h. rw (get_d_tail x i (pos 0)) (m.from (suc i) h); to = λ i h. rw (get_d_tail x i (pos 0)) (m.to (suc i) h) }
+    record { from = λ i h. rw (get_or_drop_one x i (pos 0)) (m.from (suc i) h); to = λ i h. rw (get_or_drop_one x i (pos 0)) (m.to (suc i) h) }
 
 abbrev Parts : ℕ → List ℤ → List Span → List ℤ → Type 0
 Parts g av ss x = (q : ℤ) × (dot av x ≡ fixed_part av ss +ℤ pos g *ℤ q)
