@@ -1,7 +1,6 @@
 -- What building writes into the tables, read back as lists.
-use Rattle.std.proofs.Common.{◌≡◌, ℕ, zero, suc, ◌+◌, ◌-◌, ◌<◌, ◌≤◌, Bool, true, false, ◌&&◌, ltb, List, [], ◌∷◌, ◌++◌, map, length, get_or, take, drop, set, replicate, ℤ, pos, sym, refl, ap, ◌∙◌, true≢false, arith}
-use mathlib.Core.Bool.{false≢true}
-use Rattle.std.proofs.lemmas.List.{append_assoc, drop_more, drop-replicate, length-append, length-replicate, length-take-le, map_push, set_at, take_all, take_at, take_more, take_more_set}
+use Rattle.std.proofs.Common.{◌≡◌, ℕ, zero, suc, ◌+◌, ◌-◌, ◌<◌, ◌≤◌, true, ltb, List, [], ◌∷◌, ◌++◌, map, length, take, set, replicate, ℤ, pos, refl, ap, ◌∙◌, arith}
+use Rattle.std.proofs.lemmas.List.{length-append, length-replicate, map_push, take_all, take_at, take_more_set}
 use Rattle.problems.specs.declared.quantity.RowEnds.{RowEnds}
 use Rattle.problems.specs.declared.quantity.Row.{Row}
 use Rattle.problems.specs.declared.problem.Problem.{Problem}
@@ -12,37 +11,11 @@ use Rattle.problems.specs.Stated.{Stated, stated, with_row, may_add}
 use Rattle.problems.proofs.Tests.{and_true, both_true, eqb_true, eqb_is, leb_true}
 use Rattle.problems.proofs.Views.{vars_long, rows_long}
 
--- ---- a test of each element
-
--- the first that fails tells
-pub fails_here : (b rest whole : Bool) → false ≡ b → (b && rest) ≡ whole → false ≡ whole
-fails_here true rest whole e h = absurd (false≢true e)
-fails_here false rest whole e h = h
-
--- one that passes leaves it to the rest
-pub passes_here : (b rest whole : Bool) → true ≡ b → (b && rest) ≡ whole → rest ≡ whole
-passes_here true rest whole e h = h
-passes_here false rest whole e h = absurd (true≢false e)
-
 -- ---- a table that begins with a list
 
--- one more of the list is written
-pub table_more : {T : Type 0} (xs all : List T) (x : T) (i : ℕ) → i < length xs → i < length all → x ≡ get_or xs i x
-    → set (take i xs ++ drop i all) i x ≡ take (i + 1) xs ++ drop (i + 1) all
-table_more xs all x i h k e =
-    let rest = drop (i + 1) all in
-    ap (λ ys. set (take i xs ++ ys) i x) (drop_more all i x k)
-    ∙ set_at (take i xs) (get_or all i x) rest x i (length-take-le i xs (omega arith))
-    ∙ ap (λ y. take i xs ++ y ∷ rest) e
-    ∙ sym (append_assoc (take i xs) (get_or xs i x ∷ []) rest)
-    ∙ sym (ap (λ ys. ys ++ rest) (take_more xs i x h))
-
--- all of it is written
-pub table_all : {T : Type 0} (xs : List T) (n : ℕ) (blank : T) (i : ℕ) → i ≡ length xs → take i xs ++ drop i (replicate n blank) ≡ xs ++ replicate (n - length xs) blank
-table_all xs n blank i e =
-    ap (λ k. take k xs ++ drop k (replicate n blank)) e
-    ∙ ap (λ ys. ys ++ drop (length xs) (replicate n blank)) (take_all (length xs) xs (omega arith))
-    ∙ ap (λ ys. xs ++ ys) (drop-replicate (length xs) n blank)
+-- what has room is all there
+pub padded_all : {T : Type 0} (xs : List T) (n : ℕ) (blank : T) → length xs ≤ n → take n xs ++ replicate (n - length xs) blank ≡ xs ++ replicate (n - length xs) blank
+padded_all xs n blank h = ap (λ ys. ys ++ replicate (n - length xs) blank) (take_all n xs h)
 
 pub table_front : {T : Type 0} (xs : List T) (n : ℕ) (blank : T) → take (length xs) (xs ++ replicate (n - length xs) blank) ≡ xs
 table_front xs n blank = take_at xs (replicate (n - length xs) blank) (length xs) refl
@@ -79,8 +52,16 @@ within_append n [] ys h k = k
 within_append n (x ∷ xs) ys h k = let w = and_true (within n x) (all_within n xs) h in both_true _ _ w.0 (within_append n xs ys w.1 k)
 
 -- the coefficients, with 0 past the last one
-pub padded_proper : (av : List ℤ) → length av ≤ 12 → all_within 100 av ≡ true → row_proper 12 (av ++ replicate (12 - length av) (pos 0)) ≡ true
+padded_proper : (av : List ℤ) → length av ≤ 12 → all_within 100 av ≡ true → row_proper 12 (av ++ replicate (12 - length av) (pos 0)) ≡ true
 padded_proper av h k = both_true _ _ (eqb_is _ _ (table_long av 12 (pos 0) h)) (within_append 100 av _ k (zeros_within (12 - length av)))
+
+pub few_coefs : (p : Problem) (av : List ℤ) (e : RowEnds) → Addable av e p → length av ≤ 12
+few_coefs p av e a = omega (arith, a.long, p.ends.vars.few)
+
+pub padded_row : (p : Problem) (av : List ℤ) (e : RowEnds) → Addable av e p → (coefs : List ℤ) → coefs ≡ take 12 av ++ replicate (12 - length av) (pos 0) → row_proper 12 coefs ≡ true
+padded_row p av e a coefs h =
+    let few = few_coefs p av e a in
+    ap (row_proper 12) (h ∙ padded_all av 12 (pos 0) few) ∙ padded_proper av few a.small
 
 pub rows_set : (rows : List Row) (i : ℕ) (r : Row) → rows_proper 12 (map coefs_of rows) ≡ true → row_proper 12 r.coefs ≡ true → rows_proper 12 (map coefs_of (set rows i r)) ≡ true
 rows_set [] i r h k = refl

@@ -8,7 +8,7 @@ use super::vars::Vars;
 impl Vars {
     /// All zeros.
     pub const NONE: Vars = Vars {
-        spans: [Span { lower: 0, upper: 0 }; MOST],
+        spans: [Span::NOWHERE; MOST],
         n: 0,
     };
 

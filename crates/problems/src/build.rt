@@ -9,6 +9,7 @@ use super::ends::Ends;
 use super::problem::Problem;
 use super::quantity::{MOST, Row, RowEnds, Span};
 use super::ranges::{is_coefficient, is_row_end};
+use super::table::padded;
 use super::vars::Vars;
 
 impl Problem {
@@ -16,7 +17,7 @@ impl Problem {
     pub fn first() -> Problem
         ensures value { stated result ≡ one_point }
     {
-        rowless(&[NOWHERE])
+        rowless(&[Span::NOWHERE])
     }
 
     /// These variables and no row; none unless there are 1 to 12 of them, each with its ends in order and in range.
@@ -61,7 +62,7 @@ impl Problem {
     {
         let m = self.ends.m;
         self.rows[m] = Row {
-            coefs: table(coefs, 0),
+            coefs: padded(coefs, 0),
         };
         self.ends.rows[m] = ends;
         self.ends.m = m + 1;
@@ -71,15 +72,6 @@ impl Problem {
 // What stands in a row that holds none.
 const NO_ROW: Row = Row { coefs: [0; MOST] };
 
-// What stands for the ends of a row that there is not.
-const NO_ENDS: RowEnds = RowEnds {
-    lower: None,
-    upper: None,
-};
-
-// What stands for the ends of a variable that there is not.
-const NOWHERE: Span = Span { lower: 0, upper: 0 };
-
 // These variables and no row.
 fn rowless(spans: &[Span]) -> Problem
     requires some { 1 ≤ length spans.now }
@@ -88,14 +80,14 @@ fn rowless(spans: &[Span]) -> Problem
     ensures { stated result ≡ without_rows spans.now }
 {
     let vars = Vars {
-        spans: table(spans, NOWHERE),
+        spans: padded(spans, Span::NOWHERE),
         n: spans.len(),
     };
     Problem {
         rows: [NO_ROW; MOST],
         ends: Ends {
             vars,
-            rows: [NO_ENDS; MOST],
+            rows: [RowEnds::FREE; MOST],
             m: 0,
         },
     }
@@ -123,34 +115,12 @@ impl RowEnds {
 fn all_proper(spans: &[Span]) -> bool
     ensures { result ≡ spans_proper spans.now }
 {
-    for span in spans {
-        if !span.is_proper() {
-            return false;
-        }
-    }
-    true
+    spans.iter().all(|span| span.is_proper())
 }
 
 // Whether every coefficient is in its range.
 fn all_coefficients(coefs: &[i64]) -> bool
     ensures { result ≡ all_within 100 coefs.now }
 {
-    for a in coefs {
-        if !is_coefficient(*a) {
-            return false;
-        }
-    }
-    true
-}
-
-// A table that begins with these and goes on with the blank.
-fn table<T: Copy>(front: &[T], blank: T) -> [T; MOST]
-    requires { length front.now ≤ 12 }
-    ensures { result ≡ front.now ++ replicate (12 - length front.now) blank }
-{
-    let mut all = [blank; MOST];
-    for i in 0..front.len() {
-        all[i] = front[i];
-    }
-    all
+    coefs.iter().all(|a| is_coefficient(*a))
 }

@@ -18,4 +18,5 @@ pub mod ranges;
 pub mod read;
 pub mod refusal;
 pub mod split;
+pub mod table;
 pub mod vars;

@@ -33,10 +33,7 @@ pub fn is_variable_end(z: i64) -> bool
 pub fn is_row_end(end: Option<i64>) -> bool
     ensures value { result ≡ in_reach end }
 {
-    match end {
-        None => true,
-        Some(z) => z.unsigned_abs() <= ROW_END,
-    }
+    end.is_none_or(|z| z.unsigned_abs() <= ROW_END)
 }
 
 impl Span {

@@ -1,7 +1,8 @@
 //! The two halves of a box, and putting one in its place.
 ghost use Rattle.std.specs.Option.{option_map};
-ghost use Rattle.std.specs.Prelude.{◌≡◌, ◌<◌, ◌&&◌, length, pos, ◌+ℤ◌, ◌<ℤ◌, if◌then◌else◌, Some, None, ◌==◌, int_le, int_lt, slice_index_or};
+ghost use Rattle.std.specs.Prelude.{◌≡◌, ◌<◌, ◌&&◌, length, pos, ◌+ℤ◌, ◌<ℤ◌, if◌then◌else◌, Some, None, true, ◌==◌, int_le, int_lt, slice_index_or, slice_set};
 ghost use Rattle.problems.specs.Box.{high, low, nowhere, splits, with_vars};
+ghost use Rattle.problems.specs.Ranges.{spans_proper};
 ghost use Rattle.problems.specs.View.{box_of, rows_of, vars_in};
 
 use super::problem::Problem;
@@ -39,47 +40,39 @@ impl Span {
 }
 
 impl Vars {
-    // The ends of variable v.
-    fn span(&self, v: usize) -> Span
-        requires { v < self.now.n }
-        ensures value { result ≡ slice_index_or self.now.spans v nowhere }
-        ensures within { v < 12 }
+    // The ends of the variable, where they are cut.
+    fn cut_span(&self, cut: (usize, i64)) -> Option<Span>
+        ensures { result ≡ (if splits cut.0 cut.1 (vars_in self.now) then Some (slice_index_or (vars_in self.now) cut.0 nowhere) else None) }
     {
-        self.spans[v]
+        let span = self.spans().get(cut.0)?;
+        span.splits_at(cut).then_some(*span)
     }
 
-    // The variable is one of these, and lower end ≤ k < upper end.
-    fn splits_at(&self, cut: (usize, i64)) -> bool
-        ensures { result ≡ splits cut.0 cut.1 (vars_in self.now) }
+    // The ends with others for variable v.
+    fn with(&self, v: usize, span: Span) -> Vars
+        requires within { v < self.now.n }
+        requires proper { spans_proper (slice_set (vars_in self.now) v span) ≡ true }
+        ensures { vars_in result ≡ slice_set (vars_in self.now) v span }
     {
-        if cut.0 >= self.n {
-            return false;
-        }
-        self.span(cut.0).splits_at(cut)
+        let mut spans = self.spans;
+        spans[v] = span;
+        Vars { spans, n: self.n }
     }
 
     /// The half in which the variable is at most k; none unless lower end ≤ k < upper end.
     pub fn below(&self, cut: (usize, i64)) -> Option<Vars>
         ensures { option_map vars_in result ≡ (if splits cut.0 cut.1 (vars_in self.now) then Some (low cut.0 cut.1 (vars_in self.now)) else None) }
     {
-        if !self.splits_at(cut) {
-            return None;
-        }
-        let mut spans = self.spans;
-        spans[cut.0] = self.span(cut.0).upto(cut);
-        Some(Vars { spans, n: self.n })
+        let span = self.cut_span(cut)?;
+        Some(self.with(cut.0, span.upto(cut)))
     }
 
     /// The half in which the variable is above k; none unless lower end ≤ k < upper end.
     pub fn above(&self, cut: (usize, i64)) -> Option<Vars>
         ensures { option_map vars_in result ≡ (if splits cut.0 cut.1 (vars_in self.now) then Some (high cut.0 cut.1 (vars_in self.now)) else None) }
     {
-        if !self.splits_at(cut) {
-            return None;
-        }
-        let mut spans = self.spans;
-        spans[cut.0] = self.span(cut.0).above(cut);
-        Some(Vars { spans, n: self.n })
+        let span = self.cut_span(cut)?;
+        Some(self.with(cut.0, span.above(cut)))
     }
 }
 

@@ -1,19 +1,12 @@
-use Rattle.std.proofs.Common.{sym, ◌∙◌, arith}
-use Rattle.problems.specs.Box.{nowhere}
-use Rattle.std.proofs.lemmas.List.{at_drop_more, at_drop_all}
-use Rattle.problems.specs.Ranges.{spans_proper}
-use Rattle.problems.proofs.Builds.{fails_here, passes_here}
+use Rattle.std.proofs.Common.{◌&&◌, refl, ◌∙◌, rules, tests}
+use Rattle.std.proofs.lemmas.Iterator.{YieldsList-from_slice}
+use Rattle.std.proofs.lemmas.Iterator.Search.{all_from_yields_List}
+use Rattle.std.proofs.lemmas.List.Recursion.{same_from_clauses}
+use Rattle.std.specs.List.{list_all}
+use Rattle.problems.specs.Ranges.{span_proper, spans_proper}
 use Rattle.problems.proofs.build.all_proper.Goals as goal
 
-pub returns-then-not-is_proper : goal.returns-then-not-is_proper
-returns-then-not-is_proper c =
-    fails_here _ _ _ c.if-not-is_proper.ensures
-    (sym (at_drop_more spans_proper c.args.spans.now c.loop-span.span-index nowhere (omega arith)) ∙ c.loop-span.invariant)
-
-pub loop-span-preserved : goal.loop-span-preserved
-loop-span-preserved c =
-    passes_here _ _ _ c.if-not-is_proper.ensures
-    (sym (at_drop_more spans_proper c.args.spans.now c.loop-span.span-index nowhere (omega arith)) ∙ c.loop-span.invariant)
-
 pub returns : goal.returns
-returns c = sym (at_drop_all spans_proper c.args.spans.now c.loop-span.span-index (omega arith)) ∙ c.loop-span.invariant
+returns c =
+    all_from_yields_List span_proper _ _ _ c.all.ensures.ran (YieldsList-from_slice c.args.spans.now cc) (λ x b q k. search (rules, tests))
+    ∙ same_from_clauses (list_all span_proper) spans_proper (λ s b. span_proper s && b) refl (λ s ss. refl) (λ s ss. refl) c.args.spans.now

@@ -1,34 +1,27 @@
-use Rattle.std.proofs.Common.{Bool, cond, List, pos, ◌+ℤ◌, Some, None, Option, sym, ap, ◌∙◌}
+use Rattle.std.proofs.Common.{Bool, cond, List, Some, None, Option, sym, ap, ◌∙◌}
 use Rattle.problems.specs.declared.quantity.Span.{Span}
 use Rattle.problems.specs.Box.{high}
+use Rattle.problems.specs.Ranges.{spans_proper}
 use Rattle.problems.specs.View.{vars_in}
 use Rattle.problems.proofs.Boxes.{high_range}
-use Rattle.problems.proofs.Cuts.{among, under, cut_high, facts_kept}
+use Rattle.problems.proofs.Cuts.{among, cut_under, high_cut}
 use Rattle.problems.proofs.vars.Vars.above.Goals as goal
 
-pub span-requires : goal.span-requires
-span-requires c = among c.args.self.now c.args.cut.0 c.args.cut.1 (sym c.splits_at.ensures ∙ c.if-not-splits_at.false)
-
 pub above-requires : goal.above-requires
-above-requires c =
-    let h = sym c.splits_at.ensures ∙ c.if-not-splits_at.false in
-    rw c.span.ensures.value (under c.args.self.now c.args.cut.0 c.args.cut.1 h)
+above-requires c = cut_under c.args.cut.0 c.args.cut.1 (vars_in c.args.self.now) c.in_ok-span.span c.in_ok-span.ensures
 
-pub invariant_of-result : goal.invariant_of-result
-invariant_of-result c =
+pub with-requires : goal.with-requires
+with-requires c =
     let t = c.args.self.now in
-    let v = c.args.cut.0 in
-    let k = c.args.cut.1 in
-    let h = sym c.splits_at.ensures ∙ c.if-not-splits_at.false in
-    let e = cut_high t v k c.above.result h (c.above.ensures ∙ ap (λ (s : Span). record { lower = c.args.cut.1 +ℤ pos 1; upper = s.upper }) c.span.ensures.value) in
-    let kept = facts_kept t v c.above.result (high v k (vars_in t)) e (high_range v k (vars_in t) h t.proper) in
-    record { few = kept.0; long = kept.1; proper = kept.2 }
+    let h = high_cut c.args.cut.0 c.args.cut.1 (vars_in t) c.in_ok-span.span c.above.result c.in_ok-span.ensures c.above.ensures in
+    record {
+      within = among t c.args.cut.0 c.args.cut.1 h.0;
+      proper = ap spans_proper h.1 ∙ high_range c.args.cut.0 c.args.cut.1 (vars_in t) h.0 t.proper;
+    }
 
 pub returns : goal.returns
 returns c =
-    let t = c.args.self.now in
-    let v = c.args.cut.0 in
-    let k = c.args.cut.1 in
-    let h = sym c.splits_at.ensures ∙ c.if-not-splits_at.false in
-    let e = cut_high t v k c.above.result h (c.above.ensures ∙ ap (λ (s : Span). record { lower = c.args.cut.1 +ℤ pos 1; upper = s.upper }) c.span.ensures.value) in
-    ap Some e ∙ ap (λ (b : Bool). cond {A = Option (List Span)} b (Some (high v k (vars_in t))) None) (sym h)
+    let ss = vars_in c.args.self.now in
+    let h = high_cut c.args.cut.0 c.args.cut.1 ss c.in_ok-span.span c.above.result c.in_ok-span.ensures c.above.ensures in
+    ap (λ (half : List Span). Some half) (c.with.ensures ∙ h.1)
+    ∙ ap (λ (b : Bool). cond {A = Option (List Span)} b (Some (high c.args.cut.0 c.args.cut.1 ss)) None) (sym h.0)
