@@ -3,12 +3,13 @@ use Rattle.std.proofs.Common.{◌≡◌, ℕ, zero, suc, ◌+◌, ◌*◌, ◌<�
 use mathlib.Core.Bool.{false≢true}
 use lib.Signed.{le_z, lt_z, ≤ℤ_refl}
 use borrow.Author.Differences.{ints}
-use Rattle.problems.proofs.Tests.{and_true, le_z_true, lt_z_true}
 use Rattle.problems.specs.declared.quantity.Span.{Span}
 use Rattle.problems.specs.declared.quantity.RowEnds.{RowEnds}
 use Rattle.problems.specs.Box.{Box, Above, Below, Inside, Kept, width, points, splits, low, high, lower_half, upper_half, nowhere, no_ends, Proper}
 use Rattle.problems.specs.Ranges.{spans_proper}
 use Rattle.problems.proofs.Propers.{Spans, spans_from, spans_to}
+use Rattle.std.proofs.lemmas.Bool.{and_parts}
+use Rattle.problems.proofs.Tests.{le_z_true, lt_z_true}
 
 -- ---- a plan meets every end
 
@@ -29,7 +30,7 @@ kept_at (e ∷ es) (x ∷ xs) h (suc i) = kept_at es xs h.2 i
 -- ---- halves
 
 pub split_here : (k : ℤ) (s : Span) (ss : List Span) → splits zero k (s ∷ ss) ≡ true → (s.lower ≤ℤ k) × (k <ℤ s.upper)
-split_here k s ss h = let p = and_true (le_z s.lower k) (lt_z k s.upper) h in (le_z_true _ _ p.0, lt_z_true _ _ p.1)
+split_here k s ss h = let p = and_parts (le_z s.lower k) (lt_z k s.upper) h in (le_z_true _ _ p.0, lt_z_true _ _ p.1)
 
 pub low_lower : (v : ℕ) (k : ℤ) (ss : List Span) (i : ℕ) → (get_or (low v k ss) i nowhere).lower ≡ (get_or ss i nowhere).lower
 low_lower v k [] i = refl

@@ -1,6 +1,6 @@
 -- What building writes into the tables, read back as lists.
 use Rattle.std.proofs.Common.{◌≡◌, ℕ, zero, suc, ◌+◌, ◌-◌, ◌<◌, ◌≤◌, true, ltb, List, [], ◌∷◌, ◌++◌, map, length, take, set, replicate, ℤ, pos, refl, ap, ◌∙◌, arith}
-use Rattle.std.proofs.lemmas.List.{length-append, length-replicate, map_push, take_all, take_at, take_more_set}
+use Rattle.std.proofs.lemmas.List.{length-append, length-replicate, map-set, map_push, take_all, take_at, take_more_set}
 use Rattle.problems.specs.declared.quantity.RowEnds.{RowEnds}
 use Rattle.problems.specs.declared.quantity.Row.{Row}
 use Rattle.problems.specs.declared.problem.Problem.{Problem}
@@ -8,8 +8,9 @@ use Rattle.problems.specs.Whole.{within, all_within}
 use Rattle.problems.specs.Ranges.{ends_proper, row_ends_proper, row_proper, rows_proper, coefs_of}
 use Rattle.problems.specs.View.{rows_of, box_of}
 use Rattle.problems.specs.Stated.{Stated, stated, with_row, may_add}
-use Rattle.problems.proofs.Tests.{and_true, both_true, eqb_true, eqb_is, leb_true}
 use Rattle.problems.proofs.Views.{vars_long, rows_long}
+use Rattle.std.proofs.lemmas.List.Recursion.{and_push, and_set}
+use Rattle.std.proofs.lemmas.Bool.{and_from, and_parts, eq-eqb, eqb-true, leb-true}
 
 -- ---- a table that begins with a list
 
@@ -33,12 +34,12 @@ pub record Addable (av : List ℤ) (e : RowEnds) (p : Problem) : Type 0 where
 
 pub addable : (av : List ℤ) (e : RowEnds) (p : Problem) → may_add av e (stated p) ≡ true → Addable av e p
 addable av e p h =
-    let a = and_true _ (ends_proper e) h in
-    let b = and_true (ltb (length (rows_of p)) 12) _ a.0 in
-    let r = and_true _ (all_within 100 av) b.1 in
+    let a = and_parts _ (ends_proper e) h in
+    let b = and_parts (ltb (length (rows_of p)) 12) _ a.0 in
+    let r = and_parts _ (all_within 100 av) b.1 in
     record {
-      room = omega (arith, leb_true _ _ b.0, rows_long p);
-      long = eqb_true _ _ r.0 ∙ vars_long p.ends.vars;
+      room = omega (arith, leb-true _ _ b.0, rows_long p);
+      long = eqb-true _ _ r.0 ∙ vars_long p.ends.vars;
       small = r.1;
       ends = a.1;
     }
@@ -49,11 +50,11 @@ zeros_within (suc k) = zeros_within k
 
 pub within_append : (n : ℕ) (xs ys : List ℤ) → all_within n xs ≡ true → all_within n ys ≡ true → all_within n (xs ++ ys) ≡ true
 within_append n [] ys h k = k
-within_append n (x ∷ xs) ys h k = let w = and_true (within n x) (all_within n xs) h in both_true _ _ w.0 (within_append n xs ys w.1 k)
+within_append n (x ∷ xs) ys h k = let w = and_parts (within n x) (all_within n xs) h in and_from _ _ w.0 (within_append n xs ys w.1 k)
 
 -- the coefficients, with 0 past the last one
 padded_proper : (av : List ℤ) → length av ≤ 12 → all_within 100 av ≡ true → row_proper 12 (av ++ replicate (12 - length av) (pos 0)) ≡ true
-padded_proper av h k = both_true _ _ (eqb_is _ _ (table_long av 12 (pos 0) h)) (within_append 100 av _ k (zeros_within (12 - length av)))
+padded_proper av h k = and_from _ _ (eq-eqb _ _ (table_long av 12 (pos 0) h)) (within_append 100 av _ k (zeros_within (12 - length av)))
 
 pub few_coefs : (p : Problem) (av : List ℤ) (e : RowEnds) → Addable av e p → length av ≤ 12
 few_coefs p av e a = omega (arith, a.long, p.ends.vars.few)
@@ -64,13 +65,10 @@ padded_row p av e a coefs h =
     ap (row_proper 12) (h ∙ padded_all av 12 (pos 0) few) ∙ padded_proper av few a.small
 
 pub rows_set : (rows : List Row) (i : ℕ) (r : Row) → rows_proper 12 (map coefs_of rows) ≡ true → row_proper 12 r.coefs ≡ true → rows_proper 12 (map coefs_of (set rows i r)) ≡ true
-rows_set [] i r h k = refl
-rows_set (s ∷ rows) zero r h k = both_true _ _ k (and_true (row_proper 12 s.coefs) _ h).1
-rows_set (s ∷ rows) (suc i) r h k = let w = and_true (row_proper 12 s.coefs) _ h in both_true _ _ w.0 (rows_set rows i r w.1 k)
+rows_set rows i r h k = ap (rows_proper 12) (map-set coefs_of rows i r) ∙ and_set (rows_proper 12) (row_proper 12) refl (λ s ss. refl) (map coefs_of rows) i r.coefs k h
 
 pub ends_push : (es : List RowEnds) (e : RowEnds) → row_ends_proper es ≡ true → ends_proper e ≡ true → row_ends_proper (es ++ (e ∷ [])) ≡ true
-ends_push [] e h k = both_true _ _ k refl
-ends_push (f ∷ es) e h k = let w = and_true (ends_proper f) _ h in both_true _ _ w.0 (ends_push es e w.1 k)
+ends_push es e h k = and_push row_ends_proper ends_proper refl (λ f fs. refl) es e ∙ and_from _ _ h k
 
 pub ends_more : (es : List RowEnds) (m : ℕ) (e : RowEnds) → m < length es → row_ends_proper (take m es) ≡ true → ends_proper e ≡ true → row_ends_proper (take (m + 1) (set es m e)) ≡ true
 ends_more es m e l h k = ap row_ends_proper (take_more_set es m e l) ∙ ends_push (take m es) e h k

@@ -8,7 +8,8 @@ use Rattle.problems.specs.declared.vars.Vars.{Vars}
 use Rattle.problems.specs.Box.{nowhere, splits, low, high}
 use Rattle.problems.specs.View.{vars_in}
 use Rattle.problems.proofs.Views.{vars_long}
-use Rattle.problems.proofs.Tests.{and_true, lt_z_true}
+use Rattle.std.proofs.lemmas.Bool.{and_parts}
+use Rattle.problems.proofs.Tests.{lt_z_true}
 
 abbrev pub cuts : ℤ → Span → Bool
 cuts k s = le_z s.lower k && lt_z k s.upper
@@ -60,7 +61,7 @@ pub cut_under : (v : ℕ) (k : ℤ) (ss : List Span) (s : Span) → Some s ≡ c
 cut_under v k ss s e =
     let c = cond_some (splits v k ss) (get_or ss v nowhere) s (sym e) in
     let b = ap (cuts k) (sym c.1) ∙ sym (splits_here v k ss (splits_among v k ss c.0)) ∙ c.0 in
-    lt_z_true _ _ (and_true (le_z s.lower k) _ b).1
+    lt_z_true _ _ (and_parts (le_z s.lower k) _ b).1
 
 -- ---- in the table
 

@@ -13,7 +13,7 @@ use Rattle.problems.specs.Ranges.{spans_proper, row_proper, rows_proper, coefs_o
 use Rattle.problems.specs.Box.{Proper}
 use Rattle.problems.specs.View.{vars_in, rows_of, box_of}
 use Rattle.problems.proofs.Propers.{row_proper_at}
-use Rattle.problems.proofs.Tests.{and_true, both_true, eqb_true, eqb_is}
+use Rattle.std.proofs.lemmas.Bool.{and_from, and_parts, eq-eqb, eqb-true}
 
 -- ---- tables
 
@@ -44,23 +44,23 @@ no_row_at rows n m i h k =
 
 pub row_long : (rows : List Row) (i : ℕ) → rows_proper 12 (map coefs_of rows) ≡ true → i < length rows → length (get_or rows i no_row).coefs ≡ 12
 row_long [] i h k = absurd (not-suc-le-zero k)
-row_long (r ∷ rs) zero h k = eqb_true _ _ (and_true (eqb (length r.coefs) 12) (all_within 100 r.coefs) (and_true (row_proper 12 r.coefs) _ h).0).0
-row_long (r ∷ rs) (suc i) h k = row_long rs i (and_true (row_proper 12 r.coefs) _ h).1 (le_of_suc-le-suc k)
+row_long (r ∷ rs) zero h k = eqb-true _ _ (and_parts (eqb (length r.coefs) 12) (all_within 100 r.coefs) (and_parts (row_proper 12 r.coefs) _ h).0).0
+row_long (r ∷ rs) (suc i) h k = row_long rs i (and_parts (row_proper 12 r.coefs) _ h).1 (le_of_suc-le-suc k)
 
 -- a part of a row stays small
 pub within_take : (b n : ℕ) (xs : List ℤ) → all_within b xs ≡ true → all_within b (take n xs) ≡ true
 within_take b zero xs h = refl
 within_take b (suc n) [] h = refl
-within_take b (suc n) (x ∷ xs) h = let w = and_true (within b x) (all_within b xs) h in both_true _ _ w.0 (within_take b n xs w.1)
+within_take b (suc n) (x ∷ xs) h = let w = and_parts (within b x) (all_within b xs) h in and_from _ _ w.0 (within_take b n xs w.1)
 
 pub rows_proper_of : (rows : List Row) (n m : ℕ) → n ≤ 12 → rows_proper 12 (map coefs_of rows) ≡ true → rows_proper n (map (λ (r : Row). take n r.coefs) (take m rows)) ≡ true
 rows_proper_of rows n zero l h = refl
 rows_proper_of [] n (suc m) l h = refl
 rows_proper_of (r ∷ rs) n (suc m) l h =
-    let w = and_true (row_proper 12 r.coefs) (rows_proper 12 (map coefs_of rs)) h in
-    let v = and_true (eqb (length r.coefs) 12) (all_within 100 r.coefs) w.0 in
-    let e = eqb_true _ _ v.0 in
-    both_true _ _ (both_true _ _ (eqb_is _ _ (length-take-le n r.coefs (rw e l))) (within_take 100 n r.coefs v.1)) (rows_proper_of rs n m l w.1)
+    let w = and_parts (row_proper 12 r.coefs) (rows_proper 12 (map coefs_of rs)) h in
+    let v = and_parts (eqb (length r.coefs) 12) (all_within 100 r.coefs) w.0 in
+    let e = eqb-true _ _ v.0 in
+    and_from _ _ (and_from _ _ (eq-eqb _ _ (length-take-le n r.coefs (rw e l))) (within_take 100 n r.coefs v.1)) (rows_proper_of rs n m l w.1)
 
 -- ---- lengths
 
@@ -97,5 +97,5 @@ proper p =
 pub row_of : (p : Problem) (i : ℕ) → i < length (rows_of p) → (length (get_or (rows_of p) i []) ≡ length (box_of p).vars) × (all_within 100 (get_or (rows_of p) i []) ≡ true)
 row_of p i h =
     let r = get_or (rows_of p) i [] in
-    let w = and_true (eqb (length r) (length (box_of p).vars)) (all_within 100 r) (row_proper_at (length (box_of p).vars) (rows_of p) i h (proper p).coefficients) in
-    (eqb_true _ _ w.0, w.1)
+    let w = and_parts (eqb (length r) (length (box_of p).vars)) (all_within 100 r) (row_proper_at (length (box_of p).vars) (rows_of p) i h (proper p).coefficients) in
+    (eqb-true _ _ w.0, w.1)

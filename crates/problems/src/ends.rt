@@ -6,6 +6,7 @@ use super::quantity::{MOST, RowEnds};
 use super::vars::Vars;
 
 /// The ends of one variable or more, and of the first `m` rows.
+// A fixed table with its count, as in `Vars`.
 #[derive(Clone, Copy)]
 pub struct Ends {
     pub(crate) vars: Vars,

@@ -6,6 +6,7 @@
 //! | `ranges` | the ranges of numbers, and the order of ends |
 //! | `vars`, `ends`, `problem` | the tables of a problem, each with what its type carries |
 //! | `build`, `read`, `split`, `blank` | making a problem, reading it, its halves, and a table of none |
+//! | `table` | tables filled from the front |
 //! | `refusal` | why a call is refused |
 #![tactic(auto)]
 

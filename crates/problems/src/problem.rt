@@ -6,6 +6,7 @@ use super::ends::Ends;
 use super::quantity::{MOST, Row};
 
 /// The rows' coefficients and the ends of all quantities.
+// Coefficients and ends of a row stand apart: the ends make the box, which halves change, and the rows stay.
 #[derive(Clone, Copy)]
 pub struct Problem {
     pub(crate) rows: [Row; MOST],

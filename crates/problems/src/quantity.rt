@@ -55,6 +55,7 @@ impl From<Span> for RowEnds {
 }
 
 /// The coefficients of a row; what stands past the last variable means nothing.
+// A fixed table, since nothing here takes the heap; the problem knows how many variables there are.
 #[derive(Clone, Copy, PartialEq, Eq, Debug)]
 pub struct Row {
     pub coefs: [i64; MOST],
