@@ -6,7 +6,9 @@ use Rattle.problems.specs.declared.quantity.Row.{Row}
 use Rattle.problems.specs.declared.problem.Problem.{Problem}
 use Rattle.problems.specs.Whole.{within, all_within}
 use Rattle.problems.specs.Ranges.{ends_proper, row_ends_proper, row_proper, rows_proper, coefs_of}
-use Rattle.problems.specs.View.{rows_of, box_of}
+use Rattle.problems.specs.declared.vars.Vars.{Vars}
+use Rattle.problems.specs.declared.ends.Ends.{Ends}
+use Rattle.problems.specs.View.{rows_of, box_in, vars_in}
 use Rattle.problems.specs.Stated.{Stated, stated, with_row, may_add}
 use Rattle.problems.proofs.Views.{vars_long, rows_long}
 use Rattle.std.proofs.lemmas.List.Recursion.{and_push, and_set}
@@ -82,16 +84,18 @@ rows_more n rows m av coefs l e =
 
 -- what the tables then state
 pub stated_more : (p : Problem) (av coefs : List ℤ) (e : RowEnds) → Addable av e p → coefs ≡ av ++ replicate (12 - length av) (pos 0)
+    → (ends : Ends) → ends.vars ≡ p.ends.vars → take ends.m ends.rows ≡ take p.ends.m p.ends.rows ++ (e ∷ []) → ends.m ≡ p.ends.m + 1
     → let row : Row = record { coefs = coefs } in
-    let after : Stated = record {
-      rows = map (λ (r : Row). take p.ends.vars.n r.coefs) (take (p.ends.m + 1) (set p.rows p.ends.m row));
-      box = record { vars = (box_of p).vars; rows = take (p.ends.m + 1) (set p.ends.rows p.ends.m e) };
-    } in
+    let after : Stated = record { rows = map (λ (r : Row). take ends.vars.n r.coefs) (take ends.m (set p.rows p.ends.m row)); box = box_in ends } in
     after ≡ with_row av e (stated p)
-stated_more p av coefs e a h =
+stated_more p av coefs e a h ends v rows m =
     let n = p.ends.vars.n in
-    let m = p.ends.m in
+    let row : Row = record { coefs = coefs } in
     let front : take n coefs ≡ av = ap (take n) h ∙ take_at av _ n a.long in
-    let rs = rows_more n p.rows m av coefs (rw p.long a.room) front in
-    let es = take_more_set p.ends.rows m e (rw p.ends.long a.room) in
-    λ i. record { rows = rs i; box = record { vars = (box_of p).vars; rows = es i } }
+    let rs =
+    ap (λ (w : Vars). map (λ (r : Row). take w.n r.coefs) (take ends.m (set p.rows p.ends.m row))) v
+    ∙ ap (λ k. map (λ (r : Row). take n r.coefs) (take k (set p.rows p.ends.m row))) m
+    ∙ rows_more n p.rows p.ends.m av coefs (rw p.long a.room) front
+    in
+    let vs = ap vars_in v in
+    λ i. record { rows = rs i; box = record { vars = vs i; rows = rows i } }

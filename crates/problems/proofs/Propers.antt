@@ -1,5 +1,5 @@
 -- A problem's ranges, taken apart.
-use Rattle.std.proofs.Common.{◌≡◌, ℕ, zero, suc, ◌<◌, ◌≤◌, true, List, [], ◌∷◌, length, get_or, ℤ, nat_abs, ◌≤ℤ◌, refl, le_of_suc-le-suc, not-suc-le-zero}
+use Rattle.std.proofs.Common.{◌≡◌, ℕ, ◌<◌, ◌≤◌, true, List, [], ◌∷◌, length, get_or, ℤ, nat_abs, ◌≤ℤ◌, refl}
 use Rattle.problems.specs.declared.quantity.Span.{Span}
 use Rattle.problems.specs.Whole.{within, all_within}
 use Rattle.problems.specs.Ranges.{span_proper, spans_proper, row_proper, rows_proper}

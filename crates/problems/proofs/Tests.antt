@@ -1,5 +1,5 @@
 -- What a test that passed or failed tells.
-use Rattle.std.proofs.Common.{◌≡◌, ℕ, ◌≤◌, Bool, true, false, cond, not, ◌&&◌, ◌||◌, T, eqb-true, eq-eqb, ℤ, pos, negsuc, ◌≤ℤ◌, ◌<ℤ◌, sym, refl, ap, ◌∙◌, subst, inl, inr, true≢false, arith}
+use Rattle.std.proofs.Common.{◌≡◌, Bool, true, false, not, T, eqb-true, eq-eqb, ℤ, pos, negsuc, ◌≤ℤ◌, ◌<ℤ◌, sym, refl, ap, ◌∙◌, subst, true≢false}
 use mathlib.Core.Bool.{false≢true}
 use lib.Signed.{lt_z, le_z, lt_z_no}
 use Rattle.problems.specs.Whole.{eq_z, is_zero}

@@ -1,5 +1,5 @@
 //! How a problem is made: from its variables, and row by row.
-ghost use Rattle.std.specs.Prelude.{◌≡◌, ◌-◌, ◌≤◌, true, ◌++◌, length, replicate, if◌then◌else◌, Some, None};
+ghost use Rattle.std.specs.Prelude.{◌≡◌, ◌+◌, ◌<◌, ◌≤◌, true, [], ◌∷◌, ◌++◌, length, take, if◌then◌else◌, Some, None};
 ghost use Rattle.std.specs.Option.{option_map};
 ghost use Rattle.problems.specs.Ranges.{ends_proper, span_proper, spans_proper};
 ghost use Rattle.problems.specs.Stated.{may_add, may_vary, one_point, stated, with_row, without_rows};
@@ -60,12 +60,29 @@ impl Problem {
         requires { may_add coefs.now ends (stated self.old) ≡ true }
         ensures { stated self.new ≡ with_row coefs.now ends (stated self.old) }
     {
-        let m = self.ends.m;
-        self.rows[m] = Row {
+        self.rows[self.ends.m] = Row {
             coefs: padded(coefs, 0),
         };
-        self.ends.rows[m] = ends;
-        self.ends.m = m + 1;
+        self.ends.push(ends);
+    }
+}
+
+impl Ends {
+    // Puts the ends of one more row behind the others.
+    fn push(&mut self, ends: RowEnds)
+        requires room { self.old.m < 12 }
+        requires proper { ends_proper ends ≡ true }
+        ensures vars { self.new.vars ≡ self.old.vars }
+        ensures rows { take self.new.m self.new.rows ≡ take self.old.m self.old.rows ++ (ends ∷ []) }
+        ensures count { self.new.m ≡ self.old.m + 1 }
+    {
+        let mut rows = self.rows;
+        rows[self.m] = ends;
+        *self = Ends {
+            vars: self.vars,
+            rows,
+            m: self.m + 1,
+        };
     }
 }
 

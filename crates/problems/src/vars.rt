@@ -5,8 +5,8 @@ ghost use Rattle.problems.specs.Ranges.{spans_proper};
 use super::quantity::{MOST, Span};
 
 /// The ends of the first `n` variables.
-// A fixed table with its count: nothing here takes the heap, and the kit's `ArrayVec` is neither `Copy` nor has a
-// constant, and an open split is the one and has the other.
+// A fixed table with its count: nothing here takes the heap, and the kit's `ArrayVec` is neither `Copy` nor
+// made in a constant, and an open split needs both.
 #[derive(Clone, Copy)]
 pub struct Vars {
     pub(crate) spans: [Span; MOST],
