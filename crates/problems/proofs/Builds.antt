@@ -20,9 +20,6 @@ use Rattle.std.proofs.lemmas.Bool.{and_from, and_parts, eq-eqb, eqb-true, leb-tr
 pub padded_all : {T : Type 0} (xs : List T) (n : ℕ) (blank : T) → length xs ≤ n → take n xs ++ replicate (n - length xs) blank ≡ xs ++ replicate (n - length xs) blank
 padded_all xs n blank h = ap (λ ys. ys ++ replicate (n - length xs) blank) (take_all n xs h)
 
-pub table_front : {T : Type 0} (xs : List T) (n : ℕ) (blank : T) → take (length xs) (xs ++ replicate (n - length xs) blank) ≡ xs
-table_front xs n blank = take_at xs (replicate (n - length xs) blank) (length xs) refl
-
 pub table_long : {T : Type 0} (xs : List T) (n : ℕ) (blank : T) → length xs ≤ n → length (xs ++ replicate (n - length xs) blank) ≡ n
 table_long xs n blank h = simp (length-append, length-replicate) (omega arith)
 
