@@ -15,6 +15,8 @@ pub const VARIABLE_END: u64 = 100_000;
 /// The largest size of a row's end.
 pub const ROW_END: u64 = 200_000_000;
 
+// Each of these tests is one comparison: one for all three would be as long at each call.
+
 /// Whether a coefficient is in its range.
 pub fn is_coefficient(a: i64) -> bool
     ensures value { result ≡ within 100 a }
