@@ -1,5 +1,5 @@
 //! A stack over memory that its owner lends: it never grows, and what is taken off leaves the blank behind.
-ghost use Rattle.std.specs.Prelude.{◌≡◌, ◌≤◌, length};
+ghost use Rattle.std.specs.Prelude.{◌≡◌, ◌≤◌, ◌↔◌, IsTrue, length};
 ghost use Rattle.lent.specs.Stacks.{Cleared, Popped, Pushed};
 
 use super::entry::Entry;
@@ -28,6 +28,13 @@ impl<'a, E: Entry> Stack<'a, E> {
         self.len
     }
 
+    /// Whether no slot is in use.
+    pub fn is_empty(&self) -> bool
+        ensures value { IsTrue result ↔ (self.now.len ≡ 0) }
+    {
+        self.len == 0
+    }
+
     /// Puts an entry on top, or gives it back where no slot is left.
     pub fn push(&mut self, e: E) -> Result<(), E>
         ensures after { Pushed self.old.slots.now self.old.len e self.new.slots.now self.new.len result }
@@ -43,27 +50,22 @@ impl<'a, E: Entry> Stack<'a, E> {
 
     /// Takes the latest entry off.
     pub fn pop(&mut self) -> Option<E>
-        ensures after { Popped E.Entry.blank self.old.slots.now self.old.len self.new.slots.now self.new.len result }
+        ensures after { Popped E.BLANK self.old.slots.now self.old.len self.new.slots.now self.new.len result }
         ensures named { self.new.slots.ghost_name ≡ self.old.slots.ghost_name }
     {
-        if self.len == 0 {
-            return None;
-        }
-        let i = self.len - 1;
+        let i = self.len.checked_sub(1)?;
         let e = self.slots[i];
-        self.slots[i] = E::blank_entry();
+        self.slots[i] = E::BLANK;
         self.len = i;
         Some(e)
     }
 
     /// Takes off all that is left.
     pub fn clear(&mut self)
-        ensures after { Cleared E.Entry.blank self.old.slots.now self.old.len self.new.slots.now self.new.len }
+        ensures after { Cleared E.BLANK self.old.slots.now self.old.len self.new.slots.now self.new.len }
         ensures named { self.new.slots.ghost_name ≡ self.old.slots.ghost_name }
     {
-        while self.len > 0 {
-            let _ = self.pop();
-        }
+        while self.pop().is_some() {}
     }
 }
 

@@ -7,7 +7,7 @@ use super::*;
 fn two_on_one_off<E: Entry>(slots: &mut [E], a: E, b: E) -> Option<E>
     requires { 2 ≤ length slots.old }
     ensures value { result ≡ Some b }
-    ensures after { slots.new ≡ slice_set (slice_set slots.old 0 a) 1 E.Entry.blank }
+    ensures after { slots.new ≡ slice_set (slice_set slots.old 0 a) 1 E.BLANK }
 {
     let mut s = Stack::over(&mut *slots);
     let _ = s.push(a);
