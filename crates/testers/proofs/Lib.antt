@@ -5,3 +5,6 @@ pub mod Extremes
 pub mod RowLeaves
 pub mod Middles
 pub mod Lowers
+pub mod RowFacts
+pub mod Firsts
+pub mod Turns

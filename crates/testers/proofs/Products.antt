@@ -1,5 +1,5 @@
 -- A product of small numbers, as the code computes it.
-use Rattle.std.proofs.Common.{◌≡◌, ℕ, ◌*◌, ◌≤◌, ℤ, pos, negsuc, ◌*ℤ◌, nat_abs, refl, mul-le-mul, arith, w64, SFits, to_z, of_z}
+use Rattle.std.proofs.Common.{◌≡◌, ℕ, ◌+◌, ◌*◌, ◌<◌, ◌≤◌, ◌+ℤ◌, ℤ, pos, negsuc, ◌*ℤ◌, nat_abs, refl, mul-le-mul, arith, w64, SFits, to_z, of_z}
 use borrow.Author.Differences.{ints}
 use Rattle.std.proofs.lemmas.Int.{to_z-of_z}
 
@@ -28,3 +28,14 @@ term_fits a x h k = rw (back a (omega arith), back x (omega arith)) (fits (a *�
 
 pub term_back : (a x : ℤ) → nat_abs a ≤ 100 → nat_abs x ≤ 100000 → to_z w64 (of_z w64 (to_z w64 (of_z w64 a) *ℤ to_z w64 (of_z w64 x))) ≡ a *ℤ x
 term_back a x h k = rw (back a (omega arith), back x (omega arith)) (back (a *ℤ x) (omega (arith, term_small a x h k)))
+
+-- a term more in a sum of at most 12
+module _ (x t : ℤ) (i : ℕ) (s : nat_abs x ≤ i * 10000000) (k : i < 12) (h : nat_abs t ≤ 10000000) where
+  pub sum_fits : SFits w64 (to_z w64 (of_z w64 x) +ℤ to_z w64 (of_z w64 t))
+  sum_fits = rw (back x (omega arith), back t (omega arith)) (omega (arith, ints))
+
+  pub sum_back : to_z w64 (of_z w64 (to_z w64 (of_z w64 x) +ℤ to_z w64 (of_z w64 t))) ≡ x +ℤ t
+  sum_back = rw (back x (omega arith), back t (omega arith)) (back (x +ℤ t) (omega (arith, ints)))
+
+  pub sum_small : nat_abs (to_z w64 (of_z w64 (to_z w64 (of_z w64 x) +ℤ to_z w64 (of_z w64 t)))) ≤ (i + 1) * 10000000
+  sum_small = rw sum_back (omega (arith, ints))

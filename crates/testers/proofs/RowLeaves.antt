@@ -1,16 +1,19 @@
--- The multipliers of a failing row, as the code fills them in, and one row of the check.
+-- The multipliers of a failing row, as the code fills them in, and the check row by row.
 use Rattle.std.proofs.Common.{◌≡◌, ℕ, zero, suc, ◌+◌, ◌-◌, ◌<◌, ◌≤◌, Bool, true, false, cond, List, [], ◌∷◌, ◌++◌, length, get_or, take, drop, set, replicate, ℤ, pos, negsuc, ◌-ℤ◌, ◌*ℤ◌, neg_ℤ, nat_abs, Some, None, Option, sym, refl, ap, ◌∙◌, le_of_suc-le-suc, not-suc-le-zero, add-one, arith, w64, SFits, to_z, of_z}
 use borrow.Author.Differences.{ints}
 use Rattle.std.proofs.lemmas.List.{length-take-le, set_at, take_more, append_assoc, set-append_right, take_all, take_at, drop_at, drop_more, drop_all}
-use Rattle.problems.specs.declared.quantity.Span.{Span}
-use Rattle.problems.specs.declared.quantity.RowEnds.{RowEnds}
 use Rattle.problems.specs.Rows.{scale}
-use Rattle.problems.specs.Box.{no_ends}
+use Rattle.problems.specs.declared.problem.Problem.{Problem}
+use Rattle.problems.specs.Box.{Box, no_ends}
+use Rattle.problems.specs.View.{box_of, rows_of}
+use Rattle.problems.proofs.Views.{row_of, rows_long, vars_long}
+use Rattle.testers.specs.declared.row_in_box.RowInBox.{RowInBox}
+use Rattle.testers.specs.RowInBox.{IsRow}
 use Rattle.testers.specs.Leaf.{Leaf}
 use Rattle.testers.specs.Leaf.Leaf.{sum}
-use Rattle.testers.specs.Halving.{least, greatest, exceeds, falls_short, failing_sign, single, row_multipliers, failing}
+use Rattle.testers.specs.Halving.{least, greatest, exceeds, falls_short, failing_sign, single, row_multipliers, failing, failing_row}
 use Rattle.testers.specs.Ring.{neg_mul}
-use Rattle.testers.specs.Halves.{length_scale, scale_one}
+use Rattle.testers.specs.Halves.{length_scale, scale_one, none_some, some_none}
 use Rattle.testers.proofs.Products.{fits, back, product_small}
 
 -- ---- one multiplier
@@ -86,19 +89,7 @@ multipliers_say z r n m i e h s =
     ∙ ap (λ (x : List ℤ). sum front (take m x)) (drop_at front rest n l)
     ∙ ap (sum front) (one_set m (24 - length r) i z h (omega arith))
 
--- the list, told of an equal number and row
-pub multipliers_told : (ms : List ℤ) (z z' : ℤ) (r r' : List ℤ) (i : ℕ) → z ≡ z' → r ≡ r' → ms ≡ row_multipliers z r i → ms ≡ row_multipliers z' r' i
-multipliers_told ms z z' r r' i p q h = h ∙ ap (λ x. row_multipliers x r i) p ∙ ap (λ x. row_multipliers z' x i) q
-
 -- ---- one row of the check
-
-small_by : (over under : Bool) (z : ℤ) → Some z ≡ cond over (Some (pos 1)) (cond under (Some (negsuc 0)) None) → nat_abs z ≤ 1
-small_by true under z e = let h : z ≡ pos 1 = cc in rw h (omega arith)
-small_by false true z e = let h : z ≡ negsuc 0 = cc in rw h (omega arith)
-small_by false false z e = let h : ◌≡◌ {A = ℕ} 0 1 = cc in absurd (omega arith)
-
-pub sign_small : (r : List ℤ) (ss : List Span) (e : RowEnds) (z : ℤ) → Some z ≡ failing_sign r ss e → nat_abs z ≤ 1
-sign_small r ss e z h = small_by (exceeds (least r ss) e.upper) (falls_short (greatest r ss) e.lower) z h
 
 leaf_by : (over under : Bool) (z : ℤ) (r : List ℤ) (m i : ℕ) (later : Option Leaf) → Some z ≡ cond over (Some (pos 1)) (cond under (Some (negsuc 0)) None)
     → Some (sum (scale (neg_ℤ z) r) (single m i z)) ≡ cond over (Some (sum (scale (negsuc 0) r) (single m i (pos 1)))) (cond under (Some (sum r (single m i (negsuc 0)))) later)
@@ -106,37 +97,57 @@ leaf_by true under z r m i later e = let h : z ≡ pos 1 = cc in rw h
 leaf_by false true z r m i later e = let h : z ≡ negsuc 0 = cc in rw h (ap (λ (x : List ℤ). Some (sum x (single m i (negsuc 0)))) (scale_one r))
 leaf_by false false z r m i later e = let h : ◌≡◌ {A = ℕ} 0 1 = cc in absurd (omega arith)
 
-later_by : (over under : Bool) (a b later : Option Leaf) → None ≡ cond over (Some (pos 1)) (cond under (Some (negsuc 0)) None) → later ≡ cond over a (cond under b later)
-later_by true under a b later e = let h : ◌≡◌ {A = ℕ} 0 1 = cc in absurd (omega arith)
-later_by false true a b later e = let h : ◌≡◌ {A = ℕ} 0 1 = cc in absurd (omega arith)
-later_by false false a b later e = refl
+-- the leaf, told of a row in the box and the list of its multipliers
+pub leaf_is : (p : Problem) (i : ℕ) (row : RowInBox) (z : ℤ) (ms : List ℤ) → i < length (rows_of p) → IsRow (rows_of p) (box_of p) i row
+    → Some z ≡ failing_sign row.coefs.now row.vars.now row.ends → ms ≡ row_multipliers z row.coefs.now row.number
+    → Some (sum (take p.ends.vars.n ms) (take p.ends.m (drop p.ends.vars.n ms))) ≡ failing_row (rows_of p) (box_of p) i
+leaf_is p i row z ms h t s e =
+    let n = p.ends.vars.n in
+    let m = p.ends.m in
+    let r = get_or (rows_of p) i [] in
+    let es = get_or (box_of p).rows i no_ends in
+    let ss = (box_of p).vars in
+    let told : Some z ≡ failing_sign r ss es =
+    s ∙ ap (λ x. failing_sign x row.vars.now row.ends) t.coefs ∙ ap (λ x. failing_sign r x row.ends) t.vars ∙ ap (failing_sign r ss) t.ends in
+    let made : ms ≡ row_multipliers z r i = e ∙ ap (λ x. row_multipliers z x row.number) t.coefs ∙ ap (row_multipliers z r) t.numbered in
+    ap (λ (x : List ℤ). Some (sum (take n x) (take m (drop n x)))) made
+    ∙ ap Some (multipliers_say z r n m i ((row_of p i h).0 ∙ vars_long p.ends.vars) (omega (arith, rows_long p)) (omega (arith, p.ends.few, p.ends.vars.few)))
+    ∙ ap (λ k. Some (sum (scale (neg_ℤ z) r) (single k i z))) (sym (rows_long p))
+    ∙ leaf_by (exceeds (least r ss) es.upper) (falls_short (greatest r ss) es.lower) z r (length (rows_of p)) i None told
 
--- row i fails
-pub fails_at : (ss : List Span) (m i : ℕ) (rows : List (List ℤ)) (es : List RowEnds) (z : ℤ) → i < length rows → i < length es
-    → Some z ≡ failing_sign (get_or rows i []) ss (get_or es i no_ends)
-    → Some (sum (scale (neg_ℤ z) (get_or rows i [])) (single m i z)) ≡ failing ss m i (drop i rows) (drop i es)
-fails_at ss m i rows es z h k e =
-    let r = get_or rows i [] in
-    let over = exceeds (least r ss) (get_or es i no_ends).upper in
-    let under = falls_short (greatest r ss) (get_or es i no_ends).lower in
-    rw (drop_more rows i [] h, drop_more es i no_ends k) (leaf_by over under z r m i (failing ss m (suc i) (drop (i + 1) rows) (drop (i + 1) es)) e)
+-- ---- the rows from i on
 
--- it does not
-pub passes_at : (ss : List Span) (m i : ℕ) (rows : List (List ℤ)) (es : List RowEnds) → i < length rows → i < length es
-    → None ≡ failing_sign (get_or rows i []) ss (get_or es i no_ends)
-    → failing ss m (i + 1) (drop (i + 1) rows) (drop (i + 1) es) ≡ failing ss m i (drop i rows) (drop i es)
-passes_at ss m i rows es h k e =
-    let r = get_or rows i [] in
-    let over = exceeds (least r ss) (get_or es i no_ends).upper in
-    let under = falls_short (greatest r ss) (get_or es i no_ends).lower in
-    rw (drop_more rows i [] h, drop_more es i no_ends k, add-one)
-    (later_by over under (Some (sum (scale (negsuc 0) r) (single m i (pos 1)))) (Some (sum r (single m i (negsuc 0)))) (failing ss m (suc i) (drop (suc i) rows) (drop (suc i) es)) e)
+found_by : (over under : Bool) (x y l : Leaf) (later : Option Leaf) → cond over (Some x) (cond under (Some y) None) ≡ Some l → cond over (Some x) (cond under (Some y) later) ≡ Some l
+found_by true under x y l later e = e
+found_by false true x y l later e = e
+found_by false false x y l later e = none_some l e
 
-pub none_left : (ss : List Span) (m i : ℕ) (rows : List (List ℤ)) (es : List RowEnds) → length rows ≤ i → None ≡ failing ss m i (drop i rows) (drop i es)
-none_left ss m i rows es h = rw (drop_all i rows h)
+later_by : (over under : Bool) (x y : Leaf) (later : Option Leaf) → cond over (Some x) (cond under (Some y) None) ≡ None → later ≡ cond over (Some x) (cond under (Some y) later)
+later_by true under x y later e = some_none x e
+later_by false true x y later e = some_none y e
+later_by false false x y later e = refl
 
--- the sign, told of equal lists
-pub sign_told : (o : Option ℤ) (r r' : List ℤ) (ss ss' : List Span) (es es' : List RowEnds) (i : ℕ) → r ≡ r' → ss ≡ ss' → es ≡ es'
-    → o ≡ failing_sign r ss (get_or es i no_ends) → o ≡ failing_sign r' ss' (get_or es' i no_ends)
-sign_told o r r' ss ss' es es' i p q s h =
-    h ∙ ap (λ x. failing_sign x ss (get_or es i no_ends)) p ∙ ap (λ x. failing_sign r' x (get_or es i no_ends)) q ∙ ap (λ x. failing_sign r' ss' (get_or x i no_ends)) s
+module _ (rows : List (List ℤ)) (box : Box) where
+  -- what is found from row i on
+  abbrev pub failing_from : ℕ → Option Leaf
+  failing_from i = failing box.vars (length rows) i (drop i rows) (drop i box.rows)
+
+  pub none_left : failing_from (length rows) ≡ None
+  none_left = rw (drop_all (length rows) rows (omega arith)) refl
+
+  module _ (i : ℕ) (h : i < length rows) (k : i < length box.rows) where
+    pub fails_at : (l : Leaf) → failing_row rows box i ≡ Some l → failing_from i ≡ Some l
+    fails_at l e =
+        let r = get_or rows i [] in
+        let es = get_or box.rows i no_ends in
+        rw (drop_more rows i [] h, drop_more box.rows i no_ends k)
+        (found_by (exceeds (least r box.vars) es.upper) (falls_short (greatest r box.vars) es.lower) (sum (scale (negsuc 0) r) (single (length rows) i (pos 1))) (sum r (single (length rows) i (negsuc 0))) l
+        (failing box.vars (length rows) (suc i) (drop (i + 1) rows) (drop (i + 1) box.rows)) e)
+
+    pub passes_at : failing_row rows box i ≡ None → failing_from (i + 1) ≡ failing_from i
+    passes_at e =
+        let r = get_or rows i [] in
+        let es = get_or box.rows i no_ends in
+        rw (drop_more rows i [] h, drop_more box.rows i no_ends k, add-one)
+        (later_by (exceeds (least r box.vars) es.upper) (falls_short (greatest r box.vars) es.lower) (sum (scale (negsuc 0) r) (single (length rows) i (pos 1))) (sum r (single (length rows) i (negsuc 0)))
+        (failing box.vars (length rows) (suc i) (drop (suc i) rows) (drop (suc i) box.rows)) e)

@@ -4,9 +4,10 @@ use Rattle.std.proofs.Common.{sym, arith}
 use Rattle.std.proofs.Math.IntN.{*ℤ-zero}
 use Rattle.std.proofs.lemmas.Int.{ints}
 use Rattle.testers.specs.Ring.{out, lin}
-use Rattle.problems.proofs.Tests.{and_true, zero_is}
 use Rattle.problems.specs.Rows.{dot, add, scale, comb, values}
 use Rattle.testers.specs.Leaf.{all_zero}
+use Rattle.std.proofs.lemmas.Bool.{and_parts}
+use Rattle.problems.proofs.Tests.{zero_is}
 
 pub dot_add : (a b x : List ℤ) → dot (add a b) x ≡ dot a x +ℤ dot b x
 dot_add [] b x = omega (arith, ints)
@@ -28,7 +29,7 @@ pub dot_zeros : (a x : List ℤ) → all_zero a ≡ true → dot a x ≡ pos 0
 dot_zeros [] x z = refl
 dot_zeros (a ∷ av) [] z = refl
 dot_zeros (a ∷ av) (x ∷ xs) z =
-    let h = and_true _ _ z in rw (zero_is a h.0) (omega (arith, ints, dot_zeros av xs h.1))
+    let h = and_parts _ _ z in rw (zero_is a h.0) (omega (arith, ints, dot_zeros av xs h.1))
 
 -- all that a lawful sum leaf needs of its multipliers
 pub cancels : (ys zs : List ℤ) (rs : List (List ℤ)) → all_zero (add ys (comb zs rs)) ≡ true → (x : List ℤ) → dot ys x +ℤ dot zs (values rs x) ≡ pos 0

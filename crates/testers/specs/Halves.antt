@@ -1,13 +1,12 @@
 -- The halving tester keeps the laws.
 use Rattle.std.specs.Prelude.{◌≡◌, ℕ, zero, suc, ◌+◌, ◌<◌, ◌≤◌, Bool, true, false, cond, ◌&&◌, ◌⊎◌, List, [], ◌∷◌, length, get_or, drop, ℤ, pos, negsuc, ◌+ℤ◌, ◌*ℤ◌, neg_ℤ, ◌≤ℤ◌, ◌<ℤ◌, Some, None, Option, ◌≢◌, int_lt, slice_index_or, unsigned_abs, refl}
 use Rattle.std.proofs.Common.{sym, ◌∙◌, ap, subst, true≢false, inl, inr, ⊎_elim, arith, le_of_suc-le-suc, not-suc-le-zero, one-mul}
-use Rattle.std.proofs.lemmas.Bool.{false≢true}
+use Rattle.std.proofs.lemmas.Bool.{false≢true, and_from, and_parts, cond_both, eq-eqb, le-leb}
 use Rattle.std.proofs.Math.IntN.{zero-*ℤ}
 use Rattle.std.specs.Int.Signed.{≤ℤ_refl}
 use Rattle.std.specs.Int.{int_div_euclid}
 use Rattle.std.proofs.lemmas.Int.{by_lt_z, ints}
 use Rattle.testers.specs.Ring.{lin, neg_mul}
-use Rattle.problems.proofs.Tests.{by_bool, by_cond, and_true, both_true, eq_z_true, eq_z_false, eq_z_is, eqb_is, leb_is, lt_z_true, lt_z_false, lt_z_is, le_z_is}
 use Rattle.testers.specs.Dots.{dot_add, dot_scale, dot_comb, dot_nil, dot_cons, get_or_drop_one, at_values}
 use Rattle.testers.specs.Leaves.{floor}
 use Rattle.problems.specs.declared.quantity.Span.{Span}
@@ -22,6 +21,7 @@ use Rattle.testers.specs.Leaf.Leaf.{sum}
 use Rattle.testers.specs.Tester.{Answer, LawfulAnswer, KeepsLaws}
 use Rattle.testers.specs.Tester.Answer.{point, split}
 use Rattle.testers.specs.Halving.{greatest, fewest, least, exceeds, falls_short, single, failing, row_check, size, widest, middle_split, all_fixed, lowers, unless, halving}
+use Rattle.problems.proofs.Tests.{by_bool, eq_z_true, eq_z_false, eq_z_is, lt_z_true, lt_z_false, lt_z_is, le_z_is}
 
 -- ---- a row's leaf
 
@@ -29,7 +29,7 @@ use Rattle.testers.specs.Halving.{greatest, fewest, least, exceeds, falls_short,
 pub identically : (c : List ℤ) → ((x : List ℤ) → dot c x ≡ pos 0) → all_zero c ≡ true
 identically [] h = refl
 identically (a ∷ av) h =
-    both_true _ _ (eq_z_is a (pos 0) (omega (arith, ints, h (pos 1 ∷ []), dot_nil av))) (identically av (λ x. omega (arith, ints, h (pos 0 ∷ x))))
+    and_from _ _ (eq_z_is a (pos 0) (omega (arith, ints, h (pos 1 ∷ []), dot_nil av))) (identically av (λ x. omega (arith, ints, h (pos 0 ∷ x))))
 
 dot_none : (m : ℕ) (v : List ℤ) → dot (single m zero (pos 0)) v ≡ pos 0
 dot_none zero v = refl
@@ -94,16 +94,16 @@ length_single (suc m) (suc i) z = ap suc (length_single m i z)
 
 pub single_within : (m i : ℕ) (z : ℤ) → unsigned_abs z ≤ 1 → all_within 1000000000 (single m i z) ≡ true
 single_within zero i z h = refl
-single_within (suc m) zero z h = both_true _ _ (leb_is _ _ (omega arith)) (single_within m zero (pos 0) (omega arith))
+single_within (suc m) zero z h = and_from _ _ (le-leb _ _ (omega arith)) (single_within m zero (pos 0) (omega arith))
 single_within (suc m) (suc i) z h = single_within m i z h
 
 turned_within : (r : List ℤ) → Coefs r → all_within 1000000000 (scale (negsuc 0) r) ≡ true
 turned_within [] h = refl
-turned_within (a ∷ r) h = both_true _ _ (leb_is _ _ (omega (arith, ints, h.0))) (turned_within r h.1)
+turned_within (a ∷ r) h = and_from _ _ (le-leb _ _ (omega (arith, ints, h.0))) (turned_within r h.1)
 
 pub coefs_within : (r : List ℤ) → Coefs r → all_within 1000000000 r ≡ true
 coefs_within [] h = refl
-coefs_within (a ∷ r) h = both_true _ _ (leb_is _ _ (omega (arith, h.0))) (coefs_within r h.1)
+coefs_within (a ∷ r) h = and_from _ _ (le-leb _ _ (omega (arith, h.0))) (coefs_within r h.1)
 
 row_coefs : (n : ℕ) (rows : List (List ℤ)) (i : ℕ) → RowLists n rows → Coefs (slice_index_or rows i [])
 row_coefs n [] i h = tt
@@ -167,7 +167,7 @@ below_by s t o e h = subst (λ p. sum_below_zero s p ≡ true) (sym e) (lt_z_is 
 
 pub formed_by : (rows : List (List ℤ)) (box : Box) (ys zs : List ℤ) → length ys ≡ length box.vars → length zs ≡ length rows → all_within 1000000000 ys ≡ true → all_within 1000000000 zs ≡ true
     → formed rows box (sum ys zs) ≡ true
-formed_by rows box ys zs a b c d = both_true _ _ (both_true _ _ (both_true _ _ (eqb_is _ _ a) (eqb_is _ _ b)) c) d
+formed_by rows box ys zs a b c d = and_from _ _ (and_from _ _ (and_from _ _ (eq-eqb _ _ a) (eq-eqb _ _ b)) c) d
 
 row_check_lawful : (rows : List (List ℤ)) (box : Box) → Proper rows box → (l : Leaf) → row_check rows box ≡ Some l → (formed rows box l && lawful rows box l) ≡ true
 row_check_lawful rows box p l h =
@@ -182,15 +182,15 @@ row_check_lawful rows box p l h =
     ⊎_elim
     (λ q. let w = over_total (variables_total (scale (negsuc 0) r) box.vars) (least r box.vars) e.upper (total_turned r box.vars) q.1 in
     subst (λ (l : Leaf). (formed rows box l && lawful rows box l) ≡ true) (sym (q.0 ∙ ap (λ k. sum (scale (negsuc 0) r) (single (length rows) k (pos 1))) z))
-    (both_true _ _
+    (and_from _ _
     (formed_by rows box (scale (negsuc 0) r) (single (length rows) i (pos 1)) (length_scale (negsuc 0) r ∙ n) (length_single (length rows) i (pos 1)) (turned_within r c) (single_within (length rows) i (pos 1) (omega arith)))
-    (both_true _ _ (cancelled rows i (negsuc 0) (pos 1) f.there refl)
+    (and_from _ _ (cancelled rows i (negsuc 0) (pos 1) f.there refl)
     (below_by _ w.0 _ (rows_single (length rows) i (pos 1) w.0 box.rows p.ends_of_rows f.there w.1) w.2))))
     (λ q. let w = under_total (greatest r box.vars) e.lower q.1 in
     subst (λ (l : Leaf). (formed rows box l && lawful rows box l) ≡ true) (sym (q.0 ∙ ap (λ k. sum r (single (length rows) k (negsuc 0))) z))
-    (both_true _ _
+    (and_from _ _
     (formed_by rows box r (single (length rows) i (negsuc 0)) n (length_single (length rows) i (negsuc 0)) (coefs_within r c) (single_within (length rows) i (negsuc 0) (omega arith)))
-    (both_true _ _ (subst (λ t. all_zero (add t (comb (single (length rows) i (negsuc 0)) rows)) ≡ true) (scale_one r) (cancelled rows i (pos 1) (negsuc 0) f.there refl))
+    (and_from _ _ (subst (λ t. all_zero (add t (comb (single (length rows) i (negsuc 0)) rows)) ≡ true) (scale_one r) (cancelled rows i (pos 1) (negsuc 0) f.there refl))
     (below_by _ w.0 _ (rows_single (length rows) i (negsuc 0) w.0 box.rows p.ends_of_rows f.there w.1) w.2))))
     f.how
 
@@ -212,12 +212,12 @@ fixed_fewest (negsuc n) s h = ap (λ t. negsuc n *ℤ t) (sym (eq_z_true _ _ h))
 fixed_greatest : (r : List ℤ) (ss : List Span) → all_fixed ss ≡ true → greatest r ss ≡ dot r (lowers ss)
 fixed_greatest [] ss h = refl
 fixed_greatest (a ∷ r) [] h = refl
-fixed_greatest (a ∷ r) (s ∷ ss) h = let p = and_true (fixed s) _ h in omega (arith, lin, fixed_most a s p.0, fixed_greatest r ss p.1)
+fixed_greatest (a ∷ r) (s ∷ ss) h = let p = and_parts (fixed s) _ h in omega (arith, lin, fixed_most a s p.0, fixed_greatest r ss p.1)
 
 fixed_least : (r : List ℤ) (ss : List Span) → all_fixed ss ≡ true → least r ss ≡ dot r (lowers ss)
 fixed_least [] ss h = refl
 fixed_least (a ∷ r) [] h = refl
-fixed_least (a ∷ r) (s ∷ ss) h = let p = and_true (fixed s) _ h in omega (arith, lin, fixed_fewest a s p.0, fixed_least r ss p.1)
+fixed_least (a ∷ r) (s ∷ ss) h = let p = and_parts (fixed s) _ h in omega (arith, lin, fixed_fewest a s p.0, fixed_least r ss p.1)
 
 not_over : (z : ℤ) (u : Option ℤ) → exceeds z u ≡ false → Below u z
 not_over z None h = tt
@@ -255,7 +255,7 @@ half_between l u h = let f = floor (l +ℤ u) 1 in half_in l u (int_div_euclid (
 
 pub splits_at : (v : ℕ) (k : ℤ) (ss : List Span) → v < length ss → (get_or ss v nowhere).lower ≤ℤ k → k <ℤ (get_or ss v nowhere).upper → splits v k ss ≡ true
 splits_at v k [] h a b = absurd (not-suc-le-zero h)
-splits_at zero k (s ∷ ss) h a b = both_true _ _ (le_z_is _ _ a) (lt_z_is _ _ b)
+splits_at zero k (s ∷ ss) h a b = and_from _ _ (le_z_is _ _ a) (lt_z_is _ _ b)
 splits_at (suc v) k (s ∷ ss) h a b = splits_at v k ss (le_of_suc-le-suc h) a b
 
 -- a widest variable of the list, counted from i, or the best so far
@@ -331,6 +331,6 @@ halving_laws rows box p = by_check (row_check rows box) refl
     by_check : (o : Option Leaf) → row_check rows box ≡ o → LawfulAnswer rows box (unless o (cond (all_fixed box.vars) (point (lowers box.vars)) (middle_split box.vars)))
     by_check (Some l) e = row_check_lawful rows box p l e
     by_check None e =
-        by_cond (LawfulAnswer rows box) (all_fixed box.vars) (point (lowers box.vars)) (middle_split box.vars)
+        cond_both (all_fixed box.vars) (point (lowers box.vars)) (middle_split box.vars) (LawfulAnswer rows box)
         (λ y. (lowers_inside box.vars (spans_from _ p.spans), none_fails box.vars (length rows) 0 rows box.rows y p.ends_of_rows e))
         (λ n. middle_lawful rows box box.vars refl n p.spans)

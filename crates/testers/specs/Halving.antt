@@ -1,10 +1,10 @@
 -- The row check, the middle split, and the halving tester.
-use Rattle.std.specs.Prelude.{ℕ, zero, suc, ◌-◌, Bool, true, false, cond, ◌&&◌, List, [], ◌∷◌, ◌++◌, length, replicate, ℤ, pos, negsuc, ◌+ℤ◌, ◌-ℤ◌, ◌*ℤ◌, neg_ℤ, Some, None, Option, int_lt, slice_set}
+use Rattle.std.specs.Prelude.{ℕ, zero, suc, ◌-◌, Bool, true, false, cond, ◌&&◌, List, [], ◌∷◌, ◌++◌, length, replicate, ℤ, pos, negsuc, ◌+ℤ◌, ◌-ℤ◌, ◌*ℤ◌, neg_ℤ, Some, None, Option, int_lt, slice_index_or, slice_set}
 use Rattle.std.specs.Int.{int_div_euclid}
 use Rattle.problems.specs.declared.quantity.Span.{Span}
 use Rattle.problems.specs.declared.quantity.RowEnds.{RowEnds}
 use Rattle.problems.specs.Rows.{scale}
-use Rattle.problems.specs.Box.{Box}
+use Rattle.problems.specs.Box.{Box, no_ends}
 use Rattle.testers.specs.Leaf.{Leaf, variables_total, fixed}
 use Rattle.testers.specs.Leaf.Leaf.{sum}
 use Rattle.testers.specs.Tester.{Answer, Meaning}
@@ -46,6 +46,16 @@ single (suc m) (suc i) z = pos 0 ∷ single m i z
 -- 24 multipliers for a failing row r, whose number is i: z for the row, minus z times each coefficient for the variables
 abbrev pub row_multipliers : ℤ → List ℤ → ℕ → List ℤ
 row_multipliers z r i = scale (neg_ℤ z) r ++ slice_set (replicate (24 - length r) (pos 0)) i z
+
+-- the leaf of row i, where that row fails
+abbrev pub failing_row : List (List ℤ) → Box → ℕ → Option Leaf
+failing_row rows box i =
+    let r = slice_index_or rows i [] in
+    let e = slice_index_or box.rows i no_ends in
+    let m = length rows in
+    let under = Some (sum r (single m i (negsuc 0))) in
+    let over = Some (sum (scale (negsuc 0) r) (single m i (pos 1))) in
+    cond (exceeds (least r box.vars) e.upper) over (cond (falls_short (greatest r box.vars) e.lower) under None)
 
 -- the first failing row, counted from i, of m rows
 abbrev pub failing : List Span → ℕ → ℕ → List (List ℤ) → List RowEnds → Option Leaf

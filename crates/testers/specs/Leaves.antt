@@ -1,12 +1,11 @@
 -- A lawful leaf rules out every point that meets the ends it uses.
 use Rattle.std.specs.Prelude.{◌≡◌, ℕ, zero, suc, ◌/◌, ◌%◌, ◌<◌, ◌≤◌, Bool, true, false, cond, not, ◌&&◌, ◌||◌, List, [], ◌∷◌, length, get_or, drop, ℤ, pos, negsuc, ◌+ℤ◌, ◌-ℤ◌, ◌*ℤ◌, neg_ℤ, ◌≤ℤ◌, ◌<ℤ◌, Some, None, Option, ◌≢◌, nat_le, nat_lt, slice_index_or, refl}
-use Rattle.std.proofs.Common.{sym, ◌∙◌, ap, true≢false, ⊎_elim, arith}
-use Rattle.std.proofs.lemmas.Bool.{false≢true}
+use Rattle.std.proofs.Common.{sym, ◌∙◌, ap, true≢false, ⊎_elim, arith, refl}
+use Rattle.std.proofs.lemmas.Bool.{false≢true, and_from, and_parts, eq-eqb, eqb-true, leb-true, or_cases}
 use Rattle.std.proofs.Math.IntN.{zero-*ℤ}
 use Rattle.std.specs.Int.{int_div_euclid}
 use Rattle.std.proofs.lemmas.Int.{by_lt_z, ints}
 use Rattle.testers.specs.Ring.{out, mul_mono, mul_anti, mul_add, mul_neg, lin}
-use Rattle.problems.proofs.Tests.{and_true, both_true, or_true, by_bool, eq_z_true, eqb_true, eqb_same, leb_true, lt_z_true, zero_is}
 use Rattle.testers.specs.Dots.{cancels, dot_cons, get_or_drop_one, at_values}
 use Rattle.problems.specs.declared.quantity.Span.{Span}
 use Rattle.problems.specs.declared.quantity.RowEnds.{RowEnds}
@@ -19,6 +18,7 @@ use Rattle.problems.specs.Ranges.{rows_proper}
 use Rattle.problems.proofs.Propers.{row_length}
 use Rattle.testers.specs.Leaf.{Leaf, Uses, all_zero, most, variables_total, times, most_row, plus, rows_total, sum_below_zero, sum_lawful, fixed, divides_free, fixed_part, no_multiple, misses, divisor_lawful, formed, lawful, by_sign, by_fixed, uses}
 use Rattle.testers.specs.Leaf.Leaf.{sum, divisor}
+use Rattle.problems.proofs.Tests.{by_bool, eq_z_true, lt_z_true, zero_is}
 
 -- the point meets the flagged ends
 pub record MeetsVars (f : Side → ℕ → Bool) (ss : List Span) (x : List ℤ) : Type 0 where
@@ -118,7 +118,7 @@ below_is s (Some t) h = (t, refl, lt_z_true (s +ℤ t) (pos 0) h)
 
 sum_refutes : (rows : List (List ℤ)) (box : Box) (ys zs : List ℤ) → sum_lawful rows box ys zs ≡ true → (x : List ℤ) → Meets (uses rows box (sum ys zs)) rows box x → ⊥
 sum_refutes rows box ys zs h x m =
-    let p = and_true (all_zero (add ys (comb zs rows))) (sum_below_zero (variables_total ys box.vars) (rows_total zs box.rows)) h in
+    let p = and_parts (all_zero (add ys (comb zs rows))) (sum_below_zero (variables_total ys box.vars) (rows_total zs box.rows)) h in
     let b = below_is (variables_total ys box.vars) (rows_total zs box.rows) p.1 in
     omega (arith, lin, cancels ys zs rows p.0 x, vars_bound ys box.vars x m.in_vars, rows_bound zs box.rows (values rows x) b.0 m.in_rows b.1, b.2)
 
@@ -128,8 +128,8 @@ abbrev Same : ℤ → ℤ → ℤ → Type 0
 Same d f m = d ≡ f +ℤ m
 
 divides_is : (g : ℕ) (a : ℤ) → divides g a ≡ true → (q : ℤ) × (a ≡ pos g *ℤ q)
-divides_is g (pos n) h = (pos (n / g), let e = eqb_true (n % g) 0 h in omega (arith, ints))
-divides_is g (negsuc n) h = (neg_ℤ (pos (suc n / g)), let e = eqb_true (suc n % g) 0 h in omega (arith, ints, mul_neg (pos g) (pos (suc n / g))))
+divides_is g (pos n) h = (pos (n / g), let e = eqb-true (n % g) 0 h in omega (arith, ints))
+divides_is g (negsuc n) h = (neg_ℤ (pos (suc n / g)), let e = eqb-true (suc n % g) 0 h in omega (arith, ints, mul_neg (pos g) (pos (suc n / g))))
 
 in_fixed : (a x l d f m : ℤ) → x ≡ l → d ≡ f +ℤ m → a *ℤ x +ℤ d ≡ (a *ℤ l +ℤ f) +ℤ m
 in_fixed a x l d f m e h = rw e (omega (arith, lin))
@@ -160,12 +160,12 @@ more_parts g a av s ss x h m r =
     (λ y. by_bool (is_zero a)
     (λ z. (r.0, dot_cons a av x ∙ in_zero a (slice_index_or x 0 (pos 0)) s.lower _ _ _ (zero_is a z) r.1 ∙ ap (λ f. f +ℤ pos g *ℤ r.0) (sym (when_fixed a av s ss y))))
     (λ z. let e = eq_z_true s.lower s.upper y in
-    let b : by_fixed (a ∷ av) (s ∷ ss) Lower 0 ≡ true = both_true _ _ y (ap not z) in
+    let b : by_fixed (a ∷ av) (s ∷ ss) Lower 0 ≡ true = and_from _ _ y (ap not z) in
     let f = m.from 0 b in
     let t = m.to 0 b in
     let k : get_or x 0 (pos 0) ≡ s.lower = omega (arith, ints) in
     (r.0, dot_cons a av x ∙ in_fixed a (slice_index_or x 0 (pos 0)) s.lower _ _ _ k r.1 ∙ ap (λ f. f +ℤ pos g *ℤ r.0) (sym (when_fixed a av s ss y)))))
-    (λ n. let d = divides_is g a (⊎_elim (λ y. absurd (true≢false (sym y ∙ n))) (λ y. y) (or_true (fixed s) (divides g a) h)) in (
+    (λ n. let d = divides_is g a (⊎_elim (λ y. absurd (true≢false (sym y ∙ n))) (λ y. y) (or_cases (fixed s) (divides g a) h)) in (
       d.0 *ℤ slice_index_or x 0 (pos 0) +ℤ r.0,
       dot_cons a av x ∙ in_free a (slice_index_or x 0 (pos 0)) (pos g) d.0 _ _ r.0 d.1 r.1 ∙ ap (λ f. f +ℤ pos g *ℤ (d.0 *ℤ slice_index_or x 0 (pos 0) +ℤ r.0)) (sym (when_free a av s ss n)),
     ))
@@ -174,7 +174,7 @@ parts : (g : ℕ) (av : List ℤ) (ss : List Span) (x : List ℤ) → length av 
 parts g [] ss x l h m = (pos 0, omega (arith, ints))
 parts g (a ∷ av) [] x l h m = absurd (omega arith)
 parts g (a ∷ av) (s ∷ ss) x l h m =
-    let p = and_true (fixed s || divides g a) (divides_free g av ss) h in
+    let p = and_parts (fixed s || divides g a) (divides_free g av ss) h in
     more_parts g a av s ss x p.0 m (parts g av ss (drop 1 x) (omega arith) p.1 (tail_fixed a av s ss x m))
 
 -- the floor of a quotient
@@ -196,24 +196,24 @@ misses_is : (g : ℕ) (f d : ℤ) (lo up : Option ℤ) (q : ℤ) → misses g f 
 misses_is g f d None up q h e a b = false≢true h
 misses_is g f d (Some l) None q h e a b = false≢true h
 misses_is g f d (Some l) (Some u) q h e a b =
-    let p = and_true (nat_le 2 g) _ h in
-    gap g (l -ℤ f) (u -ℤ f) (leb_true 2 g p.0) p.1 q (omega (arith, lin)) (omega (arith, lin))
+    let p = and_parts (nat_le 2 g) _ h in
+    gap g (l -ℤ f) (u -ℤ f) (leb-true 2 g p.0) p.1 q (omega (arith, lin)) (omega (arith, lin))
 
 divisor_refutes : (rows : List (List ℤ)) (box : Box) (i g : ℕ) → rows_proper (length box.vars) rows ≡ true → i < length rows → divisor_lawful rows box i g ≡ true
     → (x : List ℤ) → Meets (uses rows box (divisor i g)) rows box x → ⊥
 divisor_refutes rows box i g lists k h x m =
-    let p = and_true (divides_free g (slice_index_or rows i []) box.vars) _ h in
+    let p = and_parts (divides_free g (slice_index_or rows i []) box.vars) _ h in
     let e = get_or box.rows i no_ends in
     let r = parts g (slice_index_or rows i []) box.vars x (row_length _ rows i lists k) p.0 m.in_vars in
     let v = at_values rows x i in
-    misses_is g _ (slice_index_or (values rows x) i (pos 0)) e.lower e.upper r.0 p.1 (v ∙ r.1) (m.in_rows.from i (eqb_same i)) (m.in_rows.to i (eqb_same i))
+    misses_is g _ (slice_index_or (values rows x) i (pos 0)) e.lower e.upper r.0 p.1 (v ∙ r.1) (m.in_rows.from i (eq-eqb i i refl)) (m.in_rows.to i (eq-eqb i i refl))
 
 -- a lawful leaf rules out every point that meets the ends it uses
 pub leaf_refutes : (rows : List (List ℤ)) (box : Box) (l : Leaf) → rows_proper (length box.vars) rows ≡ true → (formed rows box l && lawful rows box l) ≡ true
     → (x : List ℤ) → Meets (uses rows box l) rows box x → ⊥
-leaf_refutes rows box (sum ys zs) lists h x m = sum_refutes rows box ys zs (and_true (formed rows box (sum ys zs)) _ h).1 x m
+leaf_refutes rows box (sum ys zs) lists h x m = sum_refutes rows box ys zs (and_parts (formed rows box (sum ys zs)) _ h).1 x m
 leaf_refutes rows box (divisor i g) lists h x m =
-    let p = and_true (formed rows box (divisor i g)) (divisor_lawful rows box i g) h in
-    let q = and_true (nat_lt i (length rows) && nat_le 2 g) (nat_le g 255) p.0 in
-    let r = and_true (nat_lt i (length rows)) (nat_le 2 g) q.0 in
-    divisor_refutes rows box i g lists (leb_true (suc i) (length rows) r.0) p.1 x m
+    let p = and_parts (formed rows box (divisor i g)) (divisor_lawful rows box i g) h in
+    let q = and_parts (nat_lt i (length rows) && nat_le 2 g) (nat_le g 255) p.0 in
+    let r = and_parts (nat_lt i (length rows)) (nat_le 2 g) q.0 in
+    divisor_refutes rows box i g lists (leb-true (suc i) (length rows) r.0) p.1 x m

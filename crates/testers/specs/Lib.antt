@@ -3,6 +3,7 @@ pub mod Leaf
 pub mod Tester
 pub mod Halving
 pub mod Told
+pub mod RowInBox
 pub mod Halves
 pub mod Ring
 pub mod Dots

@@ -10,6 +10,9 @@ ghost use Rattle.problems.specs.View.{box_of};
 use problems::problem::Problem;
 use problems::quantity::Span;
 
+// The three functions below ask for ends in order and in range: the table that the spans stand in
+// carries that, and a span alone does not.
+
 // How far apart the ends are.
 fn size_of(s: Span) -> i64
     requires { span_proper s ≡ true }
@@ -34,8 +37,8 @@ fn widest_of(vars: &[Span]) -> usize
     ensures value { split result (int_div_euclid ((slice_index_or vars.now result nowhere).lower +ℤ (slice_index_or vars.now result nowhere).upper) (pos 2)) ≡ middle_split vars.now }
 {
     let mut best = 0;
-    for i in 1..vars.len() {
-        if size_of(vars[best]) < size_of(vars[i]) {
+    for (i, s) in vars.iter().enumerate() {
+        if size_of(vars[best]) < size_of(*s) {
             best = i;
         }
     }

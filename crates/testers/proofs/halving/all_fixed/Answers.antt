@@ -1,19 +1,14 @@
-use Rattle.std.proofs.Common.{get_or, ap, ◌∙◌, w64, SFits, rules}
-use Rattle.problems.specs.Box.{nowhere}
+use Rattle.std.proofs.Common.{◌&&◌, refl, ◌∙◌, rules}
+use Rattle.std.proofs.lemmas.Iterator.{YieldsList-from_slice}
+use Rattle.std.proofs.lemmas.Iterator.Search.{all_from_yields_List}
+use Rattle.std.proofs.lemmas.List.Recursion.{same_from_clauses}
+use Rattle.std.specs.List.{list_all}
+use Rattle.problems.specs.View.{box_of}
+use Rattle.testers.specs.Leaf.{fixed}
 use Rattle.testers.specs.Halving.{all_fixed}
-use Rattle.testers.proofs.Lowers.{free_at, fixed_at, all_fixed_end}
 use Rattle.testers.proofs.halving.all_fixed.Goals as goal
 
-pub returns-then-vars-i : goal.returns-then-vars-i
-returns-then-vars-i c =
-    free_at c.vars-vars.result.now c.loop-i.i c.loop-i-test.true c.if-vars-i.true ∙ c.loop-i.invariant ∙ ap all_fixed c.vars-vars.ensures
-
-pub loop-i-preserved : goal.loop-i-preserved
-loop-i-preserved c =
-    let ss = c.vars-vars.result.now in
-    let f : SFits w64 (get_or ss c.loop-i.i nowhere).lower = search rules in
-    let g : SFits w64 (get_or ss c.loop-i.i nowhere).upper = search rules in
-    fixed_at ss c.loop-i.i c.loop-i-test.true f g c.if-vars-i.false ∙ c.loop-i.invariant
-
 pub returns : goal.returns
-returns c = all_fixed_end c.vars-vars.result.now c.loop-i.i c.loop-i-test.false ∙ c.loop-i.invariant ∙ ap all_fixed c.vars-vars.ensures
+returns c =
+    all_from_yields_List fixed _ _ _ c.all.ensures.ran (YieldsList-from_slice (box_of c.args.problem.now).vars cc) (λ x b q k. search rules)
+    ∙ same_from_clauses (list_all fixed) all_fixed (λ s b. fixed s && b) refl (λ _ _. refl) (λ _ _. refl) (box_of c.args.problem.now).vars
