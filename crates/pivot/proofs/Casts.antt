@@ -23,13 +23,6 @@ mixed_small p x c y hp hx hc hy =
     let f = product_small 1000000000 1000000000 c y hc hy in
     omega (arith, abs_add (p *ℤ x) (c *ℤ y))
 
--- one term more of a sum of at most 24
-pub term : (s a x : ℤ) → nat_abs a ≤ 1000000000 → nat_abs x ≤ 200000000
-    → s +ℤ to_z w64 (of_z w64 (to_z w64 (of_z w64 a) *ℤ to_z w64 (of_z w64 x))) ≡ s +ℤ a *ℤ x
-term s a x ha hx =
-    let e = product_small 1000000000 200000000 a x ha hx in
-    rw (back a (omega arith), back x (omega arith), back (a *ℤ x) (omega arith))
-
 pub term_small : (s a x : ℤ) (i : ℕ) → nat_abs s ≤ i * 200000000000000000 → nat_abs a ≤ 1000000000 → nat_abs x ≤ 200000000
     → nat_abs (s +ℤ a *ℤ x) ≤ (i + 1) * 200000000000000000
 term_small s a x i h ha hx =

@@ -9,7 +9,6 @@ use Rattle.problems.specs.Box.{Box}
 use Rattle.problems.specs.declared.problem.Problem.{Problem}
 use Rattle.problems.specs.View.{box_of, rows_of}
 use Rattle.problems.proofs.Views.{proper}
-use Rattle.problems.proofs.Tests.{and_true, both_true, leb_is}
 use Rattle.problems.proofs.Propers.{span_from}
 use Rattle.testers.specs.Leaf.Leaf.{sum}
 use Rattle.testers.specs.Tester.Answer.{empty}
@@ -23,6 +22,7 @@ use Rattle.tableau.specs.Tableau.{Tableau, Run, span_ends, ends_of, run, run_on}
 use Rattle.tableau.specs.Pivot.{multipliers, refuted, conclude, concluded}
 use Rattle.pivot.specs.Shapes.{seen, shown, LinesOk, EndsOk}
 use Rattle.pivot.proofs.Begins.{take_past, within_append}
+use Rattle.std.proofs.lemmas.Bool.{and_from, and_parts, le-leb}
 
 -- the leaf, read off the last tableau
 pub failed : (box : Box) (n m k : ℕ) (values : List ℤ) (ls : List Line) (f : Violation) (ms : List ℤ) (r : Run)
@@ -48,16 +48,16 @@ values_front ss m h =
 lowers_small : (ss : List Span) → spans_proper ss ≡ true → all_within 200000000 (lowers ss) ≡ true
 lowers_small [] h = refl
 lowers_small (s ∷ ss) h =
-    let w = and_true _ (spans_proper ss) h in
+    let w = and_parts _ (spans_proper ss) h in
     let p = (span_from s w.0).1 in
-    both_true _ _ (leb_is (nat_abs s.lower) 200000000 (omega (arith, p))) (lowers_small ss w.1)
+    and_from _ _ (le-leb (nat_abs s.lower) 200000000 (omega (arith, p))) (lowers_small ss w.1)
 
 zeros_small : (m : ℕ) → all_within 200000000 (replicate m (pos 0)) ≡ true
 zeros_small m = go m
   where
     go : (m : ℕ) → all_within 200000000 (replicate m (pos 0)) ≡ true
     go zero = refl
-    go (suc m) = both_true _ _ (leb_is 0 200000000 (omega arith)) (go m)
+    go (suc m) = and_from _ _ (le-leb 0 200000000 (omega arith)) (go m)
 
 pub values_small : (ss : List Span) (m : ℕ) → spans_proper ss ≡ true → all_within 200000000 (lowers ss ++ replicate m (pos 0)) ≡ true
 values_small ss m h = within_append 200000000 (lowers ss) (replicate m (pos 0)) (lowers_small ss h) (zeros_small m)
@@ -65,17 +65,17 @@ values_small ss m h = within_append 200000000 (lowers ss) (replicate m (pos 0)) 
 rows_in_reach : (es : List RowEnds) → row_ends_proper es ≡ true → EndsOk es
 rows_in_reach [] h = tt
 rows_in_reach (e ∷ es) h =
-    let w = and_true _ (row_ends_proper es) h in
-    let p = and_true _ (in_reach e.upper) w.0 in
-    let q = and_true (in_order e.lower e.upper) (in_reach e.lower) p.0 in
+    let w = and_parts _ (row_ends_proper es) h in
+    let p = and_parts _ (in_reach e.upper) w.0 in
+    let q = and_parts (in_order e.lower e.upper) (in_reach e.lower) p.0 in
     (q.1, p.1, rows_in_reach es w.1)
 
 pub all_in_reach : (ss : List Span) (es : List RowEnds) → spans_proper ss ≡ true → row_ends_proper es ≡ true → EndsOk (map span_ends ss ++ es)
 all_in_reach [] es h g = rows_in_reach es g
 all_in_reach (s ∷ ss) es h g =
-    let w = and_true _ (spans_proper ss) h in
+    let w = and_parts _ (spans_proper ss) h in
     let p = span_from s w.0 in
-    (leb_is (nat_abs s.lower) 200000000 (omega (arith, p.1)), leb_is (nat_abs s.upper) 200000000 (omega (arith, p.2)), all_in_reach ss es w.1 g)
+    (le-leb (nat_abs s.lower) 200000000 (omega (arith, p.1)), le-leb (nat_abs s.upper) 200000000 (omega (arith, p.2)), all_in_reach ss es w.1 g)
 
 -- the run from the code's tables is the run from the start
 pub same_run : (limit : ℕ) (rows : List (List ℤ)) (box : Box) (ends : List RowEnds) (k : ℕ) (values : List ℤ) (ls : List Line)

@@ -1,18 +1,14 @@
 -- The first k numbers of a line, written as a part.
-use Rattle.std.proofs.Common.{◌≡◌, ℕ, zero, suc, ◌+◌, ◌-◌, ◌<◌, ◌≤◌, Bool, true, false, cond, ◌&&◌, eqb, ltb, List, [], ◌∷◌, ◌++◌, map, length, get_or, take, drop, set, ℤ, pos, negsuc, nat_abs, sym, refl, ap, ◌∙◌, subst, le_of_suc-le-suc, not-suc-le-zero, add-one, arith, w64, to_z, of_z}
-use lib.Signed.{lt_z}
-use Rattle.std.proofs.lemmas.Bool.Decides.{nat_tests}
-use Rattle.std.proofs.lemmas.List.{take_at, length-append, length-drop, length-take-le, get_or-take, drop_more, take_more_set, append_assoc, append-nil, map-append, take_all, drop_all, drop-set-lt}
-use Rattle.problems.specs.Whole.{positive}
+use Rattle.std.proofs.Common.{◌≡◌, ℕ, suc, ◌+◌, ◌-◌, ◌<◌, ◌≤◌, true, cond, eqb, List, [], ◌∷◌, ◌++◌, map, length, get_or, take, drop, set, ℤ, negsuc, sym, ap, ◌∙◌, subst, add-one, arith}
+use Rattle.std.proofs.lemmas.List.{take_at, length-append, length-drop, length-take-le, drop_more, take_more_set, append_assoc, map-append}
 use Rattle.problems.specs.Rows.{scale}
 use Rattle.problems.specs.Whole.{all_within}
-use Rattle.problems.proofs.Tests.{and_true}
 use Rattle.tableau.specs.declared.line.Line.{Line}
-use Rattle.tableau.specs.Lines.{turned, cleared, substituted}
+use Rattle.tableau.specs.Lines.{substituted}
 use Rattle.tableau.specs.Tableau.{exchanged, small_lines}
 use Rattle.pivot.specs.Shapes.{seen, Shaped, AllShaped, LineOk, LinesOk}
-use Rattle.testers.proofs.Products.{back}
 use Rattle.pivot.proofs.Walks.{negate_within}
+use Rattle.std.proofs.lemmas.Bool.{and_parts}
 
 pub front : (k : ℕ) (r : List ℤ) → take (k - 0) r ≡ take k r
 front k r = let e : k - 0 ≡ k = omega arith in ap (λ n. take n r) e
@@ -22,34 +18,6 @@ front_long k r h = ap length (front k r) ∙ length-take-le k r h
 
 pub put_long : (k : ℕ) (new r : List ℤ) → length new ≡ k → k ≤ length r → length (new ++ drop (k - 0) r) ≡ length r
 put_long k new r e h = simp (length-append, length-drop) (omega arith)
-
-positive_lt_z : (a : ℤ) → positive a ≡ lt_z (pos 0) a
-positive_lt_z (pos zero) = refl
-positive_lt_z (pos (suc n)) = let t : ltb 0 (suc n) ≡ true = grind (arith, nat_tests) in sym t
-positive_lt_z (negsuc n) = refl
-
-pub seen_positive : (k q : ℕ) (r : List ℤ) (b : Bool) → q < k → nat_abs (get_or r q (pos 0)) ≤ 1000000000 → lt_z (pos 0) (to_z w64 (of_z w64 (get_or r q (pos 0)))) ≡ b
-    → positive (get_or (take k r) q (pos 0)) ≡ b
-seen_positive k q r b h s e =
-    ap positive (get_or-take k r q (pos 0) h) ∙ positive_lt_z (get_or r q (pos 0)) ∙ ap (lt_z (pos 0)) (sym (back (get_or r q (pos 0)) (omega arith))) ∙ e
-
--- the new numbers, put in the place of the first k
-pub put_line : (k b : ℕ) (new r : List ℤ) → length new ≡ k → seen k (record { basic = b; nums = new ++ drop (k - 0) r }) ≡ record { basic = b; nums = new }
-put_line k b new r e = let made : List ℤ → Line = λ n. record { basic = b; nums = n } in ap made (take_at new (drop (k - 0) r) k e)
-
-pub turned_yes : (k q : ℕ) (l : Line) (new : List ℤ) → length new ≡ k → new ≡ scale (negsuc 0) (take (k - 0) l.nums) → positive (get_or (take k l.nums) q (pos 0)) ≡ true
-    → seen k (record { basic = q; nums = new ++ drop (k - 0) l.nums }) ≡ turned q (seen k l)
-turned_yes k q l new e n p =
-    let made : List ℤ → Line = λ r. record { basic = q; nums = r } in
-    let r = take k l.nums in
-    put_line k q new l.nums e ∙ ap made (n ∙ ap (scale (negsuc 0)) (front k l.nums) ∙ ap (λ b. cond b (scale (negsuc 0) r) r) (sym p))
-
-pub turned_no : (k q : ℕ) (l : Line) → positive (get_or (take k l.nums) q (pos 0)) ≡ false
-    → seen k (record { basic = q; nums = l.nums }) ≡ turned q (seen k l)
-turned_no k q l p =
-    let made : List ℤ → Line = λ r. record { basic = q; nums = r } in
-    let r = take k l.nums in
-    ap made (ap (λ b. cond b (scale (negsuc 0) r) r) (sym p))
 
 pub turned_ok : (k q : ℕ) (l : Line) (new : List ℤ) → q < k → k ≤ 24 → LineOk k l → length new ≡ k → new ≡ scale (negsuc 0) (take (k - 0) l.nums)
     → LineOk k (record { basic = q; nums = new ++ drop (k - 0) l.nums })
@@ -61,71 +29,32 @@ turned_ok k q l new h s o e n =
       long = put_long k new l.nums e g ∙ o.long;
     }
 
-pub substituted_is : (k q : ℕ) (t l : Line) (new : List ℤ) → length new ≡ k → new ≡ cleared q (take (k - 0) t.nums) (take (k - 0) l.nums)
-    → seen k (record { basic = l.basic; nums = new ++ drop (k - 0) l.nums }) ≡ substituted q (seen k t) (seen k l)
-substituted_is k q t l new e n =
-    let made : List ℤ → Line = λ r. record { basic = l.basic; nums = r } in
-    put_line k l.basic new l.nums e
-    ∙ ap made (n ∙ ap (λ r. cleared q r (take (k - 0) l.nums)) (front k t.nums) ∙ ap (cleared q (take k t.nums)) (front k l.nums))
-
 -- ---- all lines
 
-pub exchange_next : (place q k : ℕ) (t : Line) (ls : List Line) (j : ℕ) (new d : Line) → j < length ls
+-- one line more is written into the next table
+pub exchange_next : (place q k : ℕ) (t : Line) (ls next : List Line) (j : ℕ) (new d : Line) → j < length ls → j < length next
     → seen k new ≡ cond (eqb j place) t (substituted q t (seen k (get_or ls j d)))
-    → map (seen k) (take (j + 1) (set ls j new)) ++ exchanged place q t (j + 1) (map (seen k) (drop (j + 1) (set ls j new)))
-    ≡ map (seen k) (take j ls) ++ exchanged place q t j (map (seen k) (drop j ls))
-exchange_next place q k t ls j new d h n =
+    → map (seen k) (take (j + 1) (set next j new)) ++ exchanged place q t (j + 1) (map (seen k) (drop (j + 1) ls))
+    ≡ map (seen k) (take j next) ++ exchanged place q t j (map (seen k) (drop j ls))
+exchange_next place q k t ls next j new d h g n =
     let f : Line → Line = seen k in
-    let x = exchanged place q t (j + 1) (map f (drop (j + 1) (set ls j new))) in
-    let a = map f (take j ls) in
+    let a = map f (take j next) in
     let r = map f (drop (j + 1) ls) in
-    let l : j < j + 1 = omega arith in
-    ap (λ (m : List Line). map f m ++ x) (take_more_set ls j new h)
-    ∙ ap (λ (m : List Line). m ++ x) (map-append f (take j ls) (new ∷ []))
+    let x = exchanged place q t (j + 1) r in
+    ap (λ (m : List Line). map f m ++ x) (take_more_set next j new g)
+    ∙ ap (λ (m : List Line). m ++ x) (map-append f (take j next) (new ∷ []))
     ∙ append_assoc a (f new ∷ []) x
-    ∙ ap (λ (m : List Line). a ++ (f new ∷ exchanged place q t (j + 1) (map f m))) (drop-set-lt (j + 1) ls j new l)
     ∙ ap (λ (i : ℕ). a ++ (f new ∷ exchanged place q t i r)) (add-one j)
     ∙ ap (λ (y : Line). a ++ (y ∷ exchanged place q t (suc j) r)) n
     ∙ sym (ap (λ (m : List Line). a ++ exchanged place q t j (map f m)) (drop_more ls j d h))
 
-pub exchange_end : (place q k : ℕ) (t : Line) (ls : List Line) (j : ℕ) → length ls ≤ j
-    → map (seen k) (take j ls) ++ exchanged place q t j (map (seen k) (drop j ls)) ≡ map (seen k) ls
-exchange_end place q k t ls j h = rw (take_all j ls h, drop_all j ls h) (append-nil (map (seen k) ls))
+shaped_push : (k : ℕ) (ls : List Line) (new : Line) → AllShaped k ls → Shaped k new → AllShaped k (ls ++ (new ∷ []))
+shaped_push k [] new a s = (s, tt)
+shaped_push k (l ∷ ls) new a s = (a.0, shaped_push k ls new a.1 s)
 
-pub shaped_set : (k : ℕ) (ls : List Line) (j : ℕ) (new : Line) → AllShaped k ls → Shaped k new → AllShaped k (set ls j new)
-shaped_set k [] j new a s = a
-shaped_set k (l ∷ ls) zero new a s = (s, a.1)
-shaped_set k (l ∷ ls) (suc j) new a s = (a.0, shaped_set k ls j new a.1 s)
-
-pub shaped_at : (k : ℕ) (ls : List Line) (i : ℕ) (d : Line) → AllShaped k ls → i < length ls → Shaped k (get_or ls i d)
-shaped_at k [] i d o h = absurd (not-suc-le-zero h)
-shaped_at k (l ∷ ls) zero d o h = o.0
-shaped_at k (l ∷ ls) (suc i) d o h = shaped_at k ls i d o.1 (le_of_suc-le-suc h)
-
-pub ok_shaped : (k : ℕ) (ls : List Line) → LinesOk k ls → AllShaped k ls
-ok_shaped k [] o = tt
-ok_shaped k (l ∷ ls) o = (record { basic = o.0.basic; long = o.0.long }, ok_shaped k ls o.1)
+pub shaped_next : (k : ℕ) (next : List Line) (j : ℕ) (new : Line) → j < length next → AllShaped k (take j next) → Shaped k new → AllShaped k (take (j + 1) (set next j new))
+shaped_next k next j new h a s = subst (AllShaped k) (sym (take_more_set next j new h)) (shaped_push k (take j next) new a s)
 
 pub shaped_ok : (k : ℕ) (ls : List Line) → AllShaped k ls → small_lines (map (seen k) ls) ≡ true → LinesOk k ls
 shaped_ok k [] a s = tt
-shaped_ok k (l ∷ ls) a s = let e = and_true _ _ s in (record { basic = a.0.basic; small = e.0; long = a.0.long }, shaped_ok k ls a.1 e.1)
-
-pub ok_from : (k : ℕ) (ls : List Line) (i : ℕ) (d : Line) → LinesOk k (drop i ls) → i < length ls → LineOk k (get_or ls i d)
-ok_from k [] i d o h = absurd (not-suc-le-zero h)
-ok_from k (l ∷ ls) zero d o h = o.0
-ok_from k (l ∷ ls) (suc i) d o h = ok_from k ls i d o (le_of_suc-le-suc h)
-
-ok_suc : (k : ℕ) (ls : List Line) (i : ℕ) → LinesOk k (drop i ls) → LinesOk k (drop (suc i) ls)
-ok_suc k [] i o = tt
-ok_suc k (l ∷ ls) zero o = o.1
-ok_suc k (l ∷ ls) (suc i) o = ok_suc k ls i o
-
-pub ok_next : (k : ℕ) (ls : List Line) (i : ℕ) (new : Line) → LinesOk k (drop i ls) → LinesOk k (drop (i + 1) (set ls i new))
-ok_next k ls i new o =
-    let l : i < i + 1 = omega arith in
-    subst (LinesOk k) (sym (drop-set-lt (i + 1) ls i new l ∙ ap (λ n. drop n ls) (add-one i))) (ok_suc k ls i o)
-
-pub small_next : (k : ℕ) (ls : List Line) (i : ℕ) (d : Line) (b : Bool) → i < length ls → b ≡ all_within 1000000000 (take k (get_or ls i d).nums)
-    → small_lines (map (seen k) (drop i ls)) ≡ (b && small_lines (map (seen k) (drop (i + 1) ls)))
-small_next k ls i d b h e =
-    ap (λ (m : List Line). small_lines (map (seen k) m)) (drop_more ls i d h) ∙ ap (λ v. v && small_lines (map (seen k) (drop (i + 1) ls))) (sym e)
+shaped_ok k (l ∷ ls) a s = let e = and_parts _ _ s in (record { basic = a.0.basic; small = e.0; long = a.0.long }, shaped_ok k ls a.1 e.1)

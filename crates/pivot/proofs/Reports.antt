@@ -1,17 +1,17 @@
 -- The values of the quantities, read off the lines.
-use Rattle.std.proofs.Common.{◌≡◌, ℕ, zero, suc, ◌+◌, ◌-◌, ◌<◌, ◌≤◌, Bool, true, false, cond, eqb, List, [], ◌∷◌, ◌++◌, map, length, get_or, take, drop, set, ℤ, pos, ◌<ℤ◌, Some, None, Option, sym, ap, ◌∙◌, add-one, arith}
+use Rattle.std.proofs.Common.{◌≡◌, ℕ, zero, suc, ◌+◌, ◌-◌, ◌<◌, Bool, true, false, cond, not, eqb, List, [], ◌∷◌, ◌++◌, map, length, get_or, take, set, ℤ, pos, ◌<ℤ◌, Some, None, Option, sym, refl, ap, ◌∙◌, subst, add-one, arith}
 use borrow.Author.Differences.{ints}
-use Rattle.std.proofs.lemmas.Bool.Decides.{nat_tests}
-use Rattle.std.proofs.lemmas.List.{drop_more, drop_all, append-nil}
+use Rattle.std.specs.List.{find}
+use Rattle.std.proofs.lemmas.Option.{none-some, same_Some}
 use Rattle.problems.specs.Rows.{dot}
-use Rattle.problems.proofs.Tests.{by_cond}
 use Rattle.tableau.specs.declared.line.Line.{Line}
 use Rattle.tableau.specs.declared.fraction.Fraction.{Fraction}
 use Rattle.tableau.specs.Lines.{den}
 use Rattle.tableau.specs.Pivot.{value, whole, floor, broken, floors}
-use Rattle.pivot.specs.Shapes.{seen}
+use Rattle.pivot.specs.Shapes.{seen, LineOk, LinesOk}
 use Rattle.tableau.specs.Sound.{DensOk}
 use Rattle.pivot.proofs.Walks.{wrote}
+use Rattle.std.proofs.lemmas.Bool.{cond_both}
 
 abbrev pub told : List ℤ → Line → Fraction
 told values l = record { num = dot l.nums values; den = den l }
@@ -21,42 +21,49 @@ made r values l n d =
     let f : ℤ → ℤ → Fraction = λ a b. record { num = a; den = b } in
     ap (λ a. f a r.den) n ∙ ap (f (dot l.nums values)) d
 
-value_step : (k v : ℕ) (values : List ℤ) (ls : List Line) (i : ℕ) (d : Line) (b : Bool) → i < length ls → eqb (get_or ls i d).basic v ≡ b
-    → value v values (map (seen k) (drop i ls)) ≡ cond b (told values (seen k (get_or ls i d))) (value v values (map (seen k) (drop (i + 1) ls)))
-value_step k v values ls i d b h e =
-    ap (λ (m : List Line). value v values (map (seen k) m)) (drop_more ls i d h)
-    ∙ ap (λ (t : Bool). cond t (told values (seen k (get_or ls i d))) (value v values (map (seen k) (drop (i + 1) ls)))) e
+-- ---- the line of a quantity
 
-pub value_here : (k v : ℕ) (values : List ℤ) (ls : List Line) (i : ℕ) (d : Line) → i < length ls → (get_or ls i d).basic ≡ v
-    → value v values (map (seen k) (drop i ls)) ≡ told values (seen k (get_or ls i d))
-value_here k v values ls i d h e = let t : eqb (get_or ls i d).basic v ≡ true = grind (arith, nat_tests) in value_step k v values ls i d true h t
+pub found_ok : (k : ℕ) (test : Line → Bool) (ls : List Line) (l : Line) → LinesOk k ls → find test ls ≡ Some l → LineOk k l
+found_ok k test [] l o e = absurd (none-some l e)
+found_ok k test (m ∷ ls) l o e = by_way (test m) e (found_ok k test ls l o.1)
+  where
+    by_way : (b : Bool) → cond b (Some m) (find test ls) ≡ Some l → (find test ls ≡ Some l → LineOk k l) → LineOk k l
+    by_way true f later = subst (LineOk k) (same_Some m l f) o.0
+    by_way false f later = later f
 
-pub value_next : (k v : ℕ) (values : List ℤ) (ls : List Line) (i : ℕ) (d : Line) → i < length ls → ((get_or ls i d).basic ≡ v → ⊥)
-    → value v values (map (seen k) (drop i ls)) ≡ value v values (map (seen k) (drop (i + 1) ls))
-value_next k v values ls i d h e = let t : eqb (get_or ls i d).basic v ≡ false = grind (arith, nat_tests) in value_step k v values ls i d false h t
+pub value_some : (k v : ℕ) (values : List ℤ) (ls : List Line) (l : Line) → find (λ (m : Line). eqb m.basic v) ls ≡ Some l
+    → value v values (map (seen k) ls) ≡ told values (seen k l)
+value_some k v values [] l e = absurd (none-some l e)
+value_some k v values (m ∷ ls) l e = by_way (eqb m.basic v) e (value_some k v values ls l)
+  where
+    by_way : (b : Bool) → cond b (Some m) (find (λ (n : Line). eqb n.basic v) ls) ≡ Some l
+        → (find (λ (n : Line). eqb n.basic v) ls ≡ Some l → value v values (map (seen k) ls) ≡ told values (seen k l))
+        → cond b (told values (seen k m)) (value v values (map (seen k) ls)) ≡ told values (seen k l)
+    by_way true f later = ap (λ (n : Line). told values (seen k n)) (same_Some m l f)
+    by_way false f later = later f
 
-pub value_end : (k v : ℕ) (values : List ℤ) (ls : List Line) (i : ℕ) → length ls ≤ i
-    → value v values (map (seen k) (drop i ls)) ≡ record { num = get_or values v (pos 0); den = pos 1 }
-value_end k v values ls i h = ap (λ (m : List Line). value v values (map (seen k) m)) (drop_all i ls h)
+pub value_none : (k v : ℕ) (values : List ℤ) (ls : List Line) → ◌≡◌ {A = Option Line} (find (λ (m : Line). eqb m.basic v) ls) None
+    → value v values (map (seen k) ls) ≡ record { num = get_or values v (pos 0); den = pos 1 }
+value_none k v values [] e = refl
+value_none k v values (m ∷ ls) e = by_way (eqb m.basic v) e (value_none k v values ls)
+  where
+    by_way : (b : Bool) → ◌≡◌ {A = Option Line} (cond b (Some m) (find (λ (n : Line). eqb n.basic v) ls)) None
+        → (◌≡◌ {A = Option Line} (find (λ (n : Line). eqb n.basic v) ls) None → value v values (map (seen k) ls) ≡ record { num = get_or values v (pos 0); den = pos 1 })
+        → cond b (told values (seen k m)) (value v values (map (seen k) ls)) ≡ record { num = get_or values v (pos 0); den = pos 1 }
+    by_way true f later = absurd (none-some m (sym f))
+    by_way false f later = later f
 
 pub value_den : (v : ℕ) (values : List ℤ) (ls : List Line) → DensOk ls → pos 0 <ℤ (value v values ls).den
 value_den v values [] o = omega (arith, ints)
 value_den v values (l ∷ ls) o =
-    by_cond (λ (f : Fraction). pos 0 <ℤ f.den) (eqb l.basic v) (told values l) (value v values ls) (λ _. o.0) (λ _. value_den v values ls o.1)
+    cond_both (eqb l.basic v) (told values l) (value v values ls) (λ (f : Fraction). pos 0 <ℤ f.den) (λ _. o.0) (λ _. value_den v values ls o.1)
 
-broken_step : (values : List ℤ) (ls : List Line) (v n : ℕ) → v < n
-    → broken values ls v (n - v) ≡ cond (whole (value v values ls)) (broken values ls (v + 1) (n - (v + 1))) (Some v)
-broken_step values ls v n h =
-    let e : n - v ≡ suc (n - (v + 1)) = omega arith in
-    ap (broken values ls v) e ∙ ap (λ m. cond (whole (value v values ls)) (broken values ls m (n - (v + 1))) (Some v)) (sym (add-one v))
-
-pub broken_on : (values : List ℤ) (ls : List Line) (v n : ℕ) (f : Fraction) → v < n → f ≡ value v values ls → true ≡ whole f → broken values ls v (n - v) ≡ broken values ls (v + 1) (n - (v + 1))
-broken_on values ls v n f h e w =
-    broken_step values ls v n h ∙ ap (λ (b : Bool). cond b (broken values ls (v + 1) (n - (v + 1))) (Some v)) (ap whole (sym e) ∙ sym w)
-
-pub broken_at : (values : List ℤ) (ls : List Line) (v n : ℕ) (f : Fraction) → v < n → f ≡ value v values ls → false ≡ whole f → broken values ls v (n - v) ≡ Some v
-broken_at values ls v n f h e w =
-    broken_step values ls v n h ∙ ap (λ (b : Bool). cond b (broken values ls (v + 1) (n - (v + 1))) (Some v)) (ap whole (sym e) ∙ sym w)
+pub broken_step : (values : List ℤ) (ls : List Line) (v k : ℕ) → broken values ls v (suc k) ≡ cond (not (whole (value v values ls))) (Some v) (broken values ls (suc v) k)
+broken_step values ls v k = by_way (whole (value v values ls))
+  where
+    by_way : (b : Bool) → cond b (broken values ls (suc v) k) (Some v) ≡ cond (not b) (Some v) (broken values ls (suc v) k)
+    by_way true = refl
+    by_way false = refl
 
 -- one value more is rounded and written
 pub floors_next : (values : List ℤ) (ls : List Line) (v n : ℕ) (point : List ℤ) (z : ℤ) → v < n → v < length point → z ≡ floor (value v values ls)
@@ -67,12 +74,6 @@ floors_next values ls v n point z h l e =
     ∙ ap (λ (x : ℤ). take v point ++ (x ∷ floors values ls (v + 1) (n - (v + 1)))) e
     ∙ ap (λ (i : ℕ). take v point ++ (floor (value v values ls) ∷ floors values ls i (n - (v + 1)))) (add-one v)
     ∙ sym (ap (λ (i : ℕ). take v point ++ floors values ls v i) m)
-
-pub floors_end : (values : List ℤ) (ls : List Line) (v n : ℕ) (point : List ℤ) → n ≤ v → v ≤ n → take v point ++ floors values ls v (n - v) ≡ take n point
-floors_end values ls v n point h k =
-    let z : n - v ≡ 0 = omega arith in
-    let e : v ≡ n = omega arith in
-    ap (λ (i : ℕ). take v point ++ floors values ls v i) z ∙ append-nil (take v point) ∙ ap (λ (i : ℕ). take i point) e
 
 -- the broken quantity is one of those looked at
 pub broken_under : (values : List ℤ) (ls : List Line) (v k b : ℕ) → broken values ls v k ≡ Some b → b < v + k

@@ -1,13 +1,13 @@
 -- What a loop over rows keeps: what it wrote, and what is left.
 use Rattle.std.proofs.Common.{◌≡◌, ℕ, zero, suc, ◌+◌, ◌<◌, ◌≤◌, true, ◌&&◌, leb, List, [], ◌∷◌, ◌++◌, length, get_or, take, drop, set, ℤ, pos, negsuc, ◌+ℤ◌, ◌*ℤ◌, nat_abs, refl, ap, ◌∙◌, subst, add-one, arith}
 use borrow.Author.Differences.{ints}
-use Rattle.std.proofs.lemmas.List.{take_more_set, append_assoc, append-nil, drop_more, drop_all, take_all, drop-set-lt}
+use Rattle.std.proofs.lemmas.List.{take_more_set, append_assoc, append-nil, drop_more, take_all, drop-set-lt}
 use Rattle.std.specs.Int.{int_div_euclid}
 use Rattle.problems.specs.Rows.{dot, add, scale}
 use Rattle.problems.specs.Whole.{all_within}
-use Rattle.problems.proofs.Tests.{and_true, both_true, leb_true, leb_is}
 use Rattle.testers.proofs.Products.{product_small}
 use Rattle.tableau.specs.Lines.{divide_all}
+use Rattle.std.proofs.lemmas.Bool.{and_from, and_parts, le-leb, leb-true}
 
 pub wrote : (row : List ℤ) (i : ℕ) (v : ℤ) (rest : List ℤ) → i < length row → take (i + 1) (set row i v) ++ rest ≡ take i row ++ (v ∷ rest)
 wrote row i v rest h = rw (take_more_set row i v h) (append_assoc (take i row) (v ∷ []) rest)
@@ -35,13 +35,10 @@ pub dot_next : (a x : List ℤ) (i : ℕ) → i < length a → i < length x
     → dot (drop i a) (drop i x) ≡ get_or a i (pos 0) *ℤ get_or x i (pos 0) +ℤ dot (drop (i + 1) a) (drop (i + 1) x)
 dot_next a x i h k = rw (drop_more a i (pos 0) h, drop_more x i (pos 0) k)
 
-pub dot_end : (a x : List ℤ) (i : ℕ) → length a ≤ i → dot (drop i a) (drop i x) ≡ pos 0
-dot_end a x i h = rw (drop_all i a h)
-
 pub within_at : (n : ℕ) (a : List ℤ) → all_within n a ≡ true → (i : ℕ) → nat_abs (get_or a i (pos 0)) ≤ n
 within_at n [] s i = omega arith
-within_at n (a ∷ av) s zero = leb_true _ _ (and_true _ _ s).0
-within_at n (a ∷ av) s (suc i) = within_at n av (and_true _ _ s).1 i
+within_at n (a ∷ av) s zero = leb-true _ _ (and_parts _ _ s).0
+within_at n (a ∷ av) s (suc i) = within_at n av (and_parts _ _ s).1 i
 
 pub abs_add : (a b : ℤ) → nat_abs (a +ℤ b) ≤ nat_abs a + nat_abs b
 abs_add a b = omega (arith, ints)
@@ -49,16 +46,16 @@ abs_add a b = omega (arith, ints)
 pub within_drop : (n : ℕ) (a : List ℤ) (i : ℕ) → all_within n a ≡ true → all_within n (drop i a) ≡ true
 within_drop n a zero s = s
 within_drop n [] (suc i) s = refl
-within_drop n (a ∷ av) (suc i) s = within_drop n av i (and_true _ _ s).1
+within_drop n (a ∷ av) (suc i) s = within_drop n av i (and_parts _ _ s).1
 
 pub within_from : (n : ℕ) (a : List ℤ) (i : ℕ) → all_within n (drop i a) ≡ true → nat_abs (get_or a i (pos 0)) ≤ n
 within_from n [] i s = omega arith
-within_from n (a ∷ av) zero s = leb_true _ _ (and_true _ _ s).0
+within_from n (a ∷ av) zero s = leb-true _ _ (and_parts _ _ s).0
 within_from n (a ∷ av) (suc i) s = within_from n av i s
 
 within_suc : (n : ℕ) (a : List ℤ) (i : ℕ) → all_within n (drop i a) ≡ true → all_within n (drop (suc i) a) ≡ true
 within_suc n [] i s = refl
-within_suc n (a ∷ av) zero s = (and_true _ _ s).1
+within_suc n (a ∷ av) zero s = (and_parts _ _ s).1
 within_suc n (a ∷ av) (suc i) s = within_suc n av i s
 
 pub within_next : (n : ℕ) (a : List ℤ) (i : ℕ) → all_within n (drop i a) ≡ true → all_within n (drop (i + 1) a) ≡ true
@@ -80,18 +77,18 @@ pub mix_within : (p c : ℤ) (r t : List ℤ) → nat_abs p ≤ 1000000000 → n
     → all_within 2000000000000000000 (add (scale p r) (scale c t)) ≡ true
 mix_within p c [] [] hp hc hr ht = refl
 mix_within p c [] (b ∷ t) hp hc hr ht =
-    let n = and_true _ _ ht in
-    both_true _ _ (leb_is _ _ (omega (arith, product_small 1000000000 1000000000 c b hc (leb_true _ _ n.0)))) (mix_within p c [] t hp hc hr n.1)
+    let n = and_parts _ _ ht in
+    and_from _ _ (le-leb _ _ (omega (arith, product_small 1000000000 1000000000 c b hc (leb-true _ _ n.0)))) (mix_within p c [] t hp hc hr n.1)
 mix_within p c (a ∷ r) [] hp hc hr ht =
-    let n = and_true _ _ hr in
-    both_true _ _ (leb_is _ _ (omega (arith, product_small 1000000000 1000000000 p a hp (leb_true _ _ n.0))))
+    let n = and_parts _ _ hr in
+    and_from _ _ (le-leb _ _ (omega (arith, product_small 1000000000 1000000000 p a hp (leb-true _ _ n.0))))
     (subst (λ z. all_within 2000000000000000000 z ≡ true) (add_nil (scale p r)) (mix_within p c r [] hp hc n.1 ht))
 mix_within p c (a ∷ r) (b ∷ t) hp hc hr ht =
-    let m = and_true _ _ hr in
-    let n = and_true _ _ ht in
-    let x = product_small 1000000000 1000000000 p a hp (leb_true _ _ m.0) in
-    let y = product_small 1000000000 1000000000 c b hc (leb_true _ _ n.0) in
-    both_true _ _ (leb_is _ _ (omega (arith, abs_add (p *ℤ a) (c *ℤ b)))) (mix_within p c r t hp hc m.1 n.1)
+    let m = and_parts _ _ hr in
+    let n = and_parts _ _ ht in
+    let x = product_small 1000000000 1000000000 p a hp (leb-true _ _ m.0) in
+    let y = product_small 1000000000 1000000000 c b hc (leb-true _ _ n.0) in
+    and_from _ _ (le-leb _ _ (omega (arith, abs_add (p *ℤ a) (c *ℤ b)))) (mix_within p c r t hp hc m.1 n.1)
 
 neg_size : (a : ℤ) → nat_abs (negsuc 0 *ℤ a) ≡ nat_abs a
 neg_size a = omega (arith, ints)

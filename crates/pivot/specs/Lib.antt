@@ -1,2 +1,3 @@
 pub mod Shapes
+pub mod Facts
 pub mod Limit

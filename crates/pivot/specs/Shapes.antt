@@ -45,11 +45,11 @@ abbrev pub EndsOk : List RowEnds → Type 0
 EndsOk [] = Unit {0}
 EndsOk (e ∷ es) = (in_reach e.lower ≡ true) × (in_reach e.upper ≡ true) × EndsOk es
 
--- unless it gave way, the lines are still in order
-abbrev pub Left : ℕ → List Line → Stop → Type 0
-Left k ls Stands = LinesOk k ls
-Left k ls (Fails f) = LinesOk k ls × (f.place < length ls)
-Left k ls GaveWay = Unit {0}
+-- unless it gave way, a run leaves the last tableau behind, and a line that fails is one of its m lines
+abbrev pub LeftAt : ℕ → Stop → Tableau → Tableau → Type 0
+LeftAt m Stands t last = t ≡ last
+LeftAt m (Fails f) t last = (t ≡ last) × (f.place < m)
+LeftAt m GaveWay t last = Unit {0}
 
 -- the choice names a line and a quantity
 abbrev pub InsideStep : ℕ → ℕ → Step → Type 0

@@ -1,96 +1,75 @@
 //! The exchange of two quantities: the leaving line is turned into that of the entering quantity, which is then taken
 //! out of every other line.
-ghost use Rattle.std.specs.Prelude.{◌≡◌, ◌<◌, ◌≤◌, map, length, if◌then◌else◌, slice_index_or};
+ghost use Rattle.std.specs.Prelude.{◌≡◌, ◌<◌, map, length, slice_index_or, take};
 ghost use Rattle.tableau.specs.Lines.{blank, substituted, turned};
-ghost use Rattle.pivot.specs.Shapes.{AllShaped, LineOk, LinesOk, Shaped, seen};
+ghost use Rattle.pivot.specs.Shapes.{AllShaped, LineOk, Shaped, seen};
 ghost use Rattle.tableau.specs.Tableau.{exchanged, small_lines};
 ghost use Rattle.problems.specs.Whole.{all_within};
 
+use super::board::Board;
 use super::numbers::{clear, negate, small};
+use super::start::NO_LINE;
+use problems::quantity::MOST;
 use tableau::line::Line;
 
-// The line's equation as that of the quantity q.
-fn turn(line: &Line, k: usize, q: usize) -> Line
-    requires line { LineOk k line.now }
-    requires short { k ≤ 24 }
-    requires inside { q < k }
-    ensures value { seen k result ≡ turned q (seen k line.now) }
-    ensures ok { LineOk k result }
-{
-    let mut nums = line.nums;
-    if nums[q] > 0 {
-        negate(&mut nums[0..k]);
+impl Board<'_> {
+    // The line's equation as that of the quantity q.
+    fn turn(&self, line: &Line, q: usize) -> Line
+        requires line { LineOk (length self.now.values.now) line.now }
+        requires inside { q < length self.now.values.now }
+        ensures value { seen (length self.now.values.now) result ≡ turned q (seen (length self.now.values.now) line.now) }
+        ensures ok { LineOk (length self.now.values.now) result }
+    {
+        let mut nums = line.nums;
+        if nums[q] > 0 {
+            negate(&mut nums[0..self.values.len()]);
+        }
+        Line { basic: q, nums }
     }
-    Line { basic: q, nums }
-}
 
-// Takes q out of the line by t.
-fn substitute(line: &Line, k: usize, t: &Line, q: usize) -> Line
-    requires line { LineOk k line.now }
-    requires turned { LineOk k t.now }
-    requires short { k ≤ 24 }
-    requires inside { q < k }
-    ensures value { seen k result ≡ substituted q (seen k t.now) (seen k line.now) }
-    ensures shaped { Shaped k result }
-{
-    let mut nums = line.nums;
-    clear(&mut nums[0..k], &t.nums[0..k], q);
-    Line {
-        basic: line.basic,
-        nums,
-    }
-}
-
-// The line after the exchange: t, where it is the one that leaves.
-fn renewed(line: &Line, k: usize, t: &Line, q: usize, leaves: bool) -> Line
-    requires line { LineOk k line.now }
-    requires turned { LineOk k t.now }
-    requires short { k ≤ 24 }
-    requires inside { q < k }
-    ensures value { seen k result ≡ (if leaves then seen k t.now else substituted q (seen k t.now) (seen k line.now)) }
-    ensures shaped { Shaped k result }
-{
-    if leaves {
-        *t
-    } else {
-        substitute(line, k, t, q)
-    }
-}
-
-// Exchanges q with the basic quantity of the line at the given place, over k quantities.
-pub(crate) fn exchange(lines: &mut [Line], k: usize, place: usize, q: usize)
-    requires lines { LinesOk k lines.old }
-    requires short { k ≤ 24 }
-    requires inside { q < k }
-    requires standing { place < length lines.old }
-    ensures value { map (seen k) lines.new ≡ exchanged place q (turned q (seen k (slice_index_or lines.old place blank))) 0 (map (seen k) lines.old) }
-    ensures shaped { AllShaped k lines.new }
-{
-    let t = turn(&lines[place], k, q);
-    for j in 0..lines.len() {
-        lines[j] = renewed(&lines[j], k, &t, q, j == place);
-    }
-}
-
-// Whether every number of the line is of the size that a line may have.
-fn line_small(line: &Line, k: usize) -> bool
-    requires shaped { Shaped k line.now }
-    requires short { k ≤ 24 }
-    ensures { result ≡ all_within 1000000000 (seen k line.now).nums }
-{
-    small(&line.nums[0..k])
-}
-
-// Whether every number of every line is.
-pub(crate) fn all_small(lines: &[Line], k: usize) -> bool
-    requires shaped { AllShaped k lines.now }
-    requires short { k ≤ 24 }
-    ensures { result ≡ small_lines (map (seen k) lines.now) }
-{
-    for i in 0..lines.len() {
-        if !line_small(&lines[i], k) {
-            return false;
+    // Takes q out of the line by t.
+    fn substitute(&self, line: &Line, t: &Line, q: usize) -> Line
+        requires line { LineOk (length self.now.values.now) line.now }
+        requires turned { LineOk (length self.now.values.now) t.now }
+        requires inside { q < length self.now.values.now }
+        ensures value { seen (length self.now.values.now) result ≡ substituted q (seen (length self.now.values.now) t.now) (seen (length self.now.values.now) line.now) }
+        ensures shaped { Shaped (length self.now.values.now) result }
+    {
+        let k = self.values.len();
+        let mut nums = line.nums;
+        clear(&mut nums[0..k], &t.nums[0..k], q);
+        Line {
+            basic: line.basic,
+            nums,
         }
     }
-    true
+
+    // The lines with q exchanged for the basic quantity of the line at the given place.
+    pub(crate) fn exchanged(&self, place: usize, q: usize) -> [Line; MOST]
+        requires standing { place < length self.now.lines.now }
+        requires inside { q < length self.now.values.now }
+        ensures value { map (seen (length self.now.values.now)) (take (length self.now.lines.now) result) ≡ exchanged place q (turned q (seen (length self.now.values.now) (slice_index_or self.now.lines.now place blank))) 0 (map (seen (length self.now.values.now)) self.now.lines.now) }
+        ensures shaped { AllShaped (length self.now.values.now) (take (length self.now.lines.now) result) }
+    {
+        let lines = &*self.lines;
+        let t = self.turn(&lines[place], q);
+        let mut next = [NO_LINE; MOST];
+        for (j, line) in lines.iter().enumerate() {
+            next[j] = if j == place {
+                t
+            } else {
+                self.substitute(line, &t, q)
+            };
+        }
+        next
+    }
+
+    // Whether every number of the lines is of the size that a line may have.
+    pub(crate) fn are_small(&self, lines: &[Line]) -> bool
+        requires { AllShaped (length self.now.values.now) lines.now }
+        ensures { result ≡ small_lines (map (seen (length self.now.values.now)) lines.now) }
+    {
+        let k = self.values.len();
+        lines.iter().all(|line| small(&line.nums[..k]))
+    }
 }

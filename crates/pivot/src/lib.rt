@@ -3,12 +3,13 @@
 //!
 //! | module | has |
 //! |---|---|
-//! | `start`, `choose`, `exchange`, `run` | the first tableau, the two choices of a pivot, the pivot, and a run of them |
+//! | `start`, `board`, `choose`, `exchange`, `run` | the first tableau, the board of a run, the two choices of a pivot, the pivot, and a run of them |
 //! | `numbers` | rows of numbers and their reduced form |
 //! | `settle` | what the last tableau says |
 //! | `test`, `tester` | the answer, and the tester |
 #![tactic(auto)]
 
+mod board;
 mod choose;
 mod exchange;
 mod numbers;

@@ -1,6 +1,7 @@
 //! Rows of numbers: sums of products, and rows that are combined, turned and freed of a common divisor.
 //! A number of a line is at most 1,000,000,000 in size and an end at most 200,000,000, so a sum of 24 products stays
-//! below 4.8 × 10^18 and a combination of two rows below 2 × 10^18, within 64 bits.
+//! below 4.8 × 10^18 and a combination of two rows below 2 × 10^18, within 64 bits. These sizes stand in the clauses, since
+//! a row is a part of a line, lent for one call.
 ghost use Rattle.std.specs.Prelude.{◌≡◌, ◌<◌, ◌≤◌, true, length, pos, negsuc, neg_ℤ, ◌<ℤ◌, slice_index_or, unsigned_abs};
 ghost use Rattle.tableau.specs.Lines.{cleared, divide_all, gcd_all, reduced};
 ghost use Rattle.problems.specs.Rows.{add, dot as product, scale};
@@ -19,11 +20,12 @@ fn common(row: &[i64]) -> u64
     ensures { result ≡ gcd_all 0 row.now }
 {
     let mut g = 0;
-    for i in 0..row.len() {
+    // A `fold` would go on past the unit.
+    for a in row {
         if g == UNIT {
             return UNIT;
         }
-        g = gcd(row[i].unsigned_abs(), g);
+        g = gcd(a.unsigned_abs(), g);
     }
     g
 }
@@ -45,6 +47,7 @@ fn reduce(row: &mut [i64])
 {
     let g = common(row);
     if g > UNIT {
+        // It fits, as a divisor of a number of the row; `try_from` would ask for a way out that no row takes.
         divide(row, g as i64);
     }
 }
@@ -58,23 +61,10 @@ fn mix(row: &mut [i64], p: i64, t: &[i64], c: i64)
     requires multiple { unsigned_abs c ≤ 1000000000 }
     ensures { row.new ≡ add (scale p row.old) (scale c t.now) }
 {
-    for i in 0..row.len() {
-        row[i] = p * row[i] + c * t[i];
+    // A zip over `iter_mut` would not tell what it wrote.
+    for (i, x) in row.iter_mut().enumerate() {
+        *x = p * *x + c * t[i];
     }
-}
-
-// The combination of the row and t in which q has the number 0, reduced.
-fn combine(row: &mut [i64], t: &[i64], q: usize)
-    requires row { all_within 1000000000 row.old ≡ true }
-    requires other { all_within 1000000000 t.now ≡ true }
-    requires same { length row.old ≡ length t.now }
-    requires inside { q < length t.now }
-    ensures { row.new ≡ reduced (add (scale (neg_ℤ (slice_index_or t.now q (pos 0))) row.old) (scale (slice_index_or row.old q (pos 0)) t.now)) }
-{
-    let p = -t[q];
-    let c = row[q];
-    mix(row, p, t, c);
-    reduce(row);
 }
 
 // Takes q out of the row by t. Where q does not stand in it, the row is left alone, which saves most of a pivot's work.
@@ -85,8 +75,10 @@ pub(crate) fn clear(row: &mut [i64], t: &[i64], q: usize)
     requires inside { q < length t.now }
     ensures { row.new ≡ cleared q t.now row.old }
 {
-    if row[q] != 0 {
-        combine(row, t, q);
+    let c = row[q];
+    if c != 0 {
+        mix(row, -t[q], t, c);
+        reduce(row);
     }
 }
 
@@ -98,9 +90,10 @@ pub(crate) fn dot(a: &[i64], x: &[i64]) -> i64
     requires short { length a.now ≤ 24 }
     ensures { result ≡ product a.now x.now }
 {
-    let mut sum: i64 = 0;
-    for i in 0..a.len() {
-        sum += a[i] * x[i];
+    let mut sum = 0;
+    // A signed sum: `sum` of the library has no bound for it.
+    for (number, value) in a.iter().zip(x) {
+        sum += number * value;
     }
     sum
 }
@@ -110,26 +103,14 @@ pub(crate) fn negate(row: &mut [i64])
     requires { all_within 1000000000 row.old ≡ true }
     ensures { row.new ≡ scale (negsuc 0) row.old }
 {
-    for i in 0..row.len() {
-        row[i] = -row[i];
+    for x in row.iter_mut() {
+        *x = -*x;
     }
 }
 
-// Whether the number is of the size that a line may have.
-fn is_small(a: i64) -> bool
-    ensures { result ≡ within 1000000000 a }
-{
-    a.unsigned_abs() <= LARGEST
-}
-
-// Whether every number of the row is.
+// Whether every number of the row is of the size that a line may have.
 pub(crate) fn small(row: &[i64]) -> bool
     ensures { result ≡ all_within 1000000000 row.now }
 {
-    for a in row {
-        if !is_small(*a) {
-            return false;
-        }
-    }
-    true
+    row.iter().all(|a| a.unsigned_abs() <= LARGEST)
 }

@@ -1,14 +1,11 @@
 //! A run of pivots: one look at the tableau after the other, until no quantity is outside its ends, or one is that none
 //! can help, or the run gives way.
-ghost use Rattle.std.specs.Prelude.{◌≡◌, ◌<◌, ◌≤◌, true, length};
-ghost use Rattle.pivot.specs.Shapes.{EndsOk, InsideStep, Left, LinesOk, shown};
-ghost use Rattle.tableau.specs.Tableau.{end_value, look as looks, moved, run as runs};
-ghost use Rattle.problems.specs.Whole.{all_within};
+ghost use Rattle.std.specs.Prelude.{◌≡◌, ◌<◌, true, length};
+ghost use Rattle.pivot.specs.Shapes.{InsideStep, LeftAt, shown};
+ghost use Rattle.tableau.specs.Tableau.{end_value, look as looks, moved, pivoted, run as runs, small_lines};
 
-use super::choose::{entering, outside};
-use super::exchange::{all_small, exchange};
+use super::board::Board;
 use problems::quantity::{RowEnds, Side};
-use tableau::line::Line;
 use tableau::run::{Step, Stop, Violation};
 
 // The violated end, at which a quantity leaves.
@@ -19,71 +16,74 @@ fn end_value(side: Side, e: RowEnds) -> i64
         Side::Lower => e.lower,
         Side::Upper => e.upper,
     };
-    match end {
-        None => 0,
-        Some(z) => z,
+    end.unwrap_or(0)
+}
+
+impl Board<'_> {
+    // Puts the leaving quantity at its violated end, and takes q in.
+    fn shift(&mut self, f: Violation, q: usize)
+        requires leaves { f.basic < length self.old.values.now }
+        requires enters { q < length self.old.values.now }
+        ensures value { self.new.values.now ≡ moved f q self.old.ends.now self.old.values.now }
+        ensures lines { self.new.lines.now ≡ self.old.lines.now }
+        ensures ends { self.new.ends.now ≡ self.old.ends.now }
+    {
+        self.values[f.basic] = end_value(f.side, self.ends[f.basic]);
+        self.values[q] = 0;
     }
-}
 
-// Puts the leaving quantity at its violated end, and takes q in.
-fn shift(values: &mut [i64], ends: &[RowEnds], f: Violation, q: usize)
-    requires leaves { f.basic < length values.old }
-    requires enters { q < length values.old }
-    requires same { length ends.now ≡ length values.old }
-    requires values { all_within 200000000 values.old ≡ true }
-    requires ends { EndsOk ends.now }
-    ensures value { values.new ≡ moved f q ends.now values.old }
-    ensures small { all_within 200000000 values.new ≡ true }
-{
-    values[f.basic] = end_value(f.side, ends[f.basic]);
-    values[q] = 0;
-}
-
-// One look at the tableau.
-fn look(lines: &[Line], values: &[i64], ends: &[RowEnds]) -> Step
-    requires lines { LinesOk (length values.now) lines.now }
-    requires short { length values.now ≤ 24 }
-    requires same { length ends.now ≡ length values.now }
-    requires values { all_within 200000000 values.now ≡ true }
-    requires ends { EndsOk ends.now }
-    ensures value { result ≡ looks ends.now (length values.now) (shown (length values.now) values.now lines.now) }
-    ensures inside { InsideStep (length values.now) (length lines.now) result }
-{
-    match outside(lines, values, ends) {
-        None => Step::Standing,
-        Some(f) => match entering(f.side, &lines[f.place], values, ends) {
-            None => Step::Stuck(f),
-            Some(q) => Step::Turn(f, q),
-        },
+    // One look at the board.
+    fn look(&self) -> Step
+        ensures value { result ≡ looks self.now.ends.now (length self.now.values.now) (shown (length self.now.values.now) self.now.values.now self.now.lines.now) }
+        ensures inside { InsideStep (length self.now.values.now) (length self.now.lines.now) result }
+    {
+        let Some(f) = self.outside() else {
+            return Step::Standing;
+        };
+        let lines = &*self.lines;
+        self.entering(f.side, &lines[f.place])
+            .map_or(Step::Stuck(f), |q| Step::Turn(f, q))
     }
-}
 
-// Pivots, at most so often, until no quantity is outside its ends or one is that none can help.
-pub(crate) fn run(limit: u32, lines: &mut [Line], values: &mut [i64], ends: &[RowEnds]) -> Stop
-    requires lines { LinesOk (length values.old) lines.old }
-    requires short { length values.old ≤ 24 }
-    requires same { length ends.now ≡ length values.old }
-    requires values { all_within 200000000 values.old ≡ true }
-    requires ends { EndsOk ends.now }
-    ensures stop { result ≡ (runs limit ends.now (length values.old) (shown (length values.old) values.old lines.old)).stop }
-    ensures left { shown (length values.old) values.new lines.new ≡ (runs limit ends.now (length values.old) (shown (length values.old) values.old lines.old)).tableau }
-    ensures values { all_within 200000000 values.new ≡ true }
-    ensures order { Left (length values.old) lines.new result }
-{
-    let mut rest = limit;
-    loop {
-        match look(lines, values, ends) {
-            Step::Standing => return Stop::Stands,
-            Step::Stuck(f) => return Stop::Fails(f),
-            Step::Turn(f, q) => {
-                if rest == 0 {
-                    return Stop::GaveWay;
-                }
-                rest -= 1;
-                exchange(lines, values.len(), f.place, q);
-                shift(values, ends, f, q);
-                if !all_small(lines, values.len()) {
-                    return Stop::GaveWay;
+    // Takes q in for the quantity that leaves; refused where a number would be too large.
+    fn pivot(&mut self, f: Violation, q: usize) -> bool
+        requires standing { f.place < length self.old.lines.now }
+        requires leaves { f.basic < length self.old.values.now }
+        requires enters { q < length self.old.values.now }
+        ensures value { result ≡ small_lines (pivoted self.old.ends.now f q (shown (length self.old.values.now) self.old.values.now self.old.lines.now)).lines }
+        ensures after { result ≡ true → shown (length self.old.values.now) self.new.values.now self.new.lines.now ≡ pivoted self.old.ends.now f q (shown (length self.old.values.now) self.old.values.now self.old.lines.now) }
+        ensures long { length self.new.values.now ≡ length self.old.values.now }
+        ensures ends { self.new.ends.now ≡ self.old.ends.now }
+    {
+        let all = self.exchanged(f.place, q);
+        let next = &all[..self.lines.len()];
+        if !self.are_small(next) {
+            return false;
+        }
+        self.lines.copy_from_slice(next);
+        self.shift(f, q);
+        true
+    }
+
+    // Pivots, at most so often, until no quantity is outside its ends or one is that none can help.
+    pub(crate) fn run(&mut self, limit: u32) -> Stop
+        ensures stop { result ≡ (runs limit self.old.ends.now (length self.old.values.now) (shown (length self.old.values.now) self.old.values.now self.old.lines.now)).stop }
+        ensures left { LeftAt (length self.new.lines.now) result (shown (length self.old.values.now) self.new.values.now self.new.lines.now) (runs limit self.old.ends.now (length self.old.values.now) (shown (length self.old.values.now) self.old.values.now self.old.lines.now)).tableau }
+        ensures long { length self.new.values.now ≡ length self.old.values.now }
+    {
+        let mut rest = limit;
+        loop {
+            match self.look() {
+                Step::Standing => return Stop::Stands,
+                Step::Stuck(f) => return Stop::Fails(f),
+                Step::Turn(f, q) => {
+                    if rest == 0 {
+                        return Stop::GaveWay;
+                    }
+                    rest -= 1;
+                    if !self.pivot(f, q) {
+                        return Stop::GaveWay;
+                    }
                 }
             }
         }

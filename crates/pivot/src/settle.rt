@@ -1,18 +1,18 @@
 //! Reading an answer off the last tableau: the values of its quantities, and the multipliers of a leaf.
-ghost use Rattle.std.specs.Prelude.{◌≡◌, ℕ, ◌<◌, ◌≤◌, true, map, length, take, pos, ◌<ℤ◌};
-ghost use Rattle.tableau.specs.Lines.{den};
+ghost use Rattle.std.specs.Prelude.{◌≡◌, ℕ, ◌<◌, ◌≤◌, map, length, take, pos, slice_index_or, ◌<ℤ◌};
+ghost use Rattle.tableau.specs.Lines.{blank};
 ghost use Rattle.tableau.specs.Pivot.{broken as breaks, floor as floor_of, floors, multipliers, settled, value, whole as is_whole};
-ghost use Rattle.pivot.specs.Shapes.{turns_signs, LineOk, LinesOk, seen, shown};
+ghost use Rattle.pivot.specs.Shapes.{turns_signs, seen, shown};
 ghost use Rattle.tableau.specs.Sound.{DensOk};
 ghost use Rattle.testers.specs.Told.{answer_in};
-ghost use Rattle.problems.specs.Rows.{dot as product};
-ghost use Rattle.problems.specs.Whole.{all_within};
 
-use super::numbers::{dot, negate};
+use super::board::Board;
+use super::numbers::negate;
 use problems::quantity::{MOST, QUANTITIES, Side};
 use tableau::fraction::Fraction;
-use tableau::line::Line;
 use testers::answer::Answer;
+
+// The remainder and the quotient by the same d: two questions of one operator each.
 
 // Whether no fraction is left.
 fn whole(f: Fraction) -> bool
@@ -30,110 +30,65 @@ fn floor(f: Fraction) -> i64
     f.num.div_euclid(f.den)
 }
 
-// The value of the line's basic quantity.
-fn fraction_of(line: &Line, values: &[i64]) -> Fraction
-    requires line { LineOk (length values.now) line.now }
-    requires short { length values.now ≤ 24 }
-    requires values { all_within 200000000 values.now ≡ true }
-    ensures num { result.num ≡ product (seen (length values.now) line.now).nums values.now }
-    ensures den { result.den ≡ den (seen (length values.now) line.now) }
-{
-    let num = dot(&line.nums[0..values.len()], values);
-    Fraction {
-        num,
-        den: -line.nums[line.basic],
-    }
-}
-
-// The value of quantity v.
-fn value_of(v: usize, lines: &[Line], values: &[i64]) -> Fraction
-    requires lines { LinesOk (length values.now) lines.now }
-    requires short { length values.now ≤ 24 }
-    requires values { all_within 200000000 values.now ≡ true }
-    requires inside { v < length values.now }
-    ensures { result ≡ value v values.now (map (seen (length values.now)) lines.now) }
-{
-    for i in 0..lines.len() {
-        if lines[i].basic == v {
-            return fraction_of(&lines[i], values);
-        }
-    }
-    Fraction {
-        num: values[v],
-        den: 1,
-    }
-}
-
-// The first of n variables that is not whole.
-fn broken(lines: &[Line], values: &[i64], n: usize) -> Option<usize>
-    requires lines { LinesOk (length values.now) lines.now }
-    requires above { DensOk (map (seen (length values.now)) lines.now) }
-    requires short { length values.now ≤ 24 }
-    requires values { all_within 200000000 values.now ≡ true }
-    requires inside { n ≤ length values.now }
-    ensures { result ≡ breaks values.now (map (seen (length values.now)) lines.now) 0 n }
-{
-    for v in 0..n {
-        let f = value_of(v, lines, values);
-        if !whole(f) {
-            return Some(v);
-        }
-    }
-    None
-}
-
-// The values of n variables, rounded.
-fn floors_of(lines: &[Line], values: &[i64], n: usize) -> [i64; MOST]
-    requires lines { LinesOk (length values.now) lines.now }
-    requires above { DensOk (map (seen (length values.now)) lines.now) }
-    requires short { length values.now ≤ 24 }
-    requires values { all_within 200000000 values.now ≡ true }
-    requires inside { n ≤ length values.now }
-    requires few { n ≤ 12 }
-    ensures { take n result ≡ floors values.now (map (seen (length values.now)) lines.now) 0 n }
-{
-    let mut point = [0; MOST];
-    for v in 0..n {
-        point[v] = floor(value_of(v, lines, values));
-    }
-    point
-}
-
-// The answer where no quantity is outside its ends: the point, or a split of the first variable that is not whole.
-pub(crate) fn settle(lines: &[Line], values: &[i64], n: usize) -> Answer
-    requires lines { LinesOk (length values.now) lines.now }
-    requires above { DensOk (map (seen (length values.now)) lines.now) }
-    requires short { length values.now ≤ 24 }
-    requires values { all_within 200000000 values.now ≡ true }
-    requires inside { n ≤ length values.now }
-    requires few { n ≤ 12 }
-    ensures { (m : ℕ) → answer_in n m result ≡ settled n (shown (length values.now) values.now lines.now) (breaks values.now (map (seen (length values.now)) lines.now) 0 n) }
-{
-    match broken(lines, values, n) {
-        Some(v) => Answer::Split((v, floor(value_of(v, lines, values)))),
-        None => Answer::Point(floors_of(lines, values, n)),
-    }
-}
-
 // Whether the multipliers of a leaf are the line's numbers with their signs turned.
 fn turns(side: Side) -> bool
     ensures { result ≡ turns_signs side }
 {
-    match side {
-        Side::Lower => false,
-        Side::Upper => true,
-    }
+    matches!(side, Side::Upper)
 }
 
-// The multipliers by which the line refutes the box: its numbers, turned where its upper end is violated.
-pub(crate) fn refute(line: &Line, k: usize, side: Side) -> [i64; QUANTITIES]
-    requires line { LineOk k line.now }
-    requires short { k ≤ 24 }
-    ensures { take k result ≡ multipliers side (take k line.now.nums) }
-{
-    let mut nums = line.nums;
-    if turns(side) {
-        negate(&mut nums[0..k]);
+impl Board<'_> {
+    // The value of quantity v.
+    fn value_of(&self, v: usize) -> Fraction
+        requires { v < length self.now.values.now }
+        ensures { result ≡ value v self.now.values.now (map (seen (length self.now.values.now)) self.now.lines.now) }
+    {
+        match self.lines.iter().find(|line| line.basic == v) {
+            Some(line) => self.fraction_of(line),
+            None => Fraction {
+                num: self.values[v],
+                den: 1,
+            },
+        }
     }
-    nums
+
+    // The values of n variables, rounded.
+    fn floors_of(&self, n: usize) -> [i64; MOST]
+        requires above { DensOk (map (seen (length self.now.values.now)) self.now.lines.now) }
+        requires inside { n ≤ length self.now.values.now }
+        requires few { n ≤ 12 }
+        ensures { take n result ≡ floors self.now.values.now (map (seen (length self.now.values.now)) self.now.lines.now) 0 n }
+    {
+        let mut point = [0; MOST];
+        for (v, x) in point[..n].iter_mut().enumerate() {
+            *x = floor(self.value_of(v));
+        }
+        point
+    }
+
+    // The answer where no quantity is outside its ends: the point, or a split of the first variable that is not whole.
+    pub(crate) fn settle(&self, n: usize) -> Answer
+        requires above { DensOk (map (seen (length self.now.values.now)) self.now.lines.now) }
+        requires inside { n ≤ length self.now.values.now }
+        requires few { n ≤ 12 }
+        ensures { (m : ℕ) → answer_in n m result ≡ settled n (shown (length self.now.values.now) self.now.values.now self.now.lines.now) (breaks self.now.values.now (map (seen (length self.now.values.now)) self.now.lines.now) 0 n) }
+    {
+        // Two answers side by side, which `map_or_else` would only hide in closures.
+        match (0..n).find(|&v| !whole(self.value_of(v))) {
+            Some(v) => Answer::Split((v, floor(self.value_of(v)))),
+            None => Answer::Point(self.floors_of(n)),
+        }
+    }
+
+    // The multipliers by which a line refutes the box: its numbers, turned where its upper end is violated.
+    pub(crate) fn refute(&self, place: usize, side: Side) -> [i64; QUANTITIES]
+        requires { place < length self.now.lines.now }
+        ensures { take (length self.now.values.now) result ≡ multipliers side (take (length self.now.values.now) (slice_index_or self.now.lines.now place blank).nums) }
+    {
+        let mut nums = self.lines[place].nums;
+        if turns(side) {
+            negate(&mut nums[0..self.values.len()]);
+        }
+        nums
+    }
 }

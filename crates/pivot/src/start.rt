@@ -1,4 +1,5 @@
 //! The tableau at the start: the variables are nonbasic at their lower ends, and the rows are basic.
+//! The tables have a fixed size, since nothing here takes the heap.
 ghost use Rattle.std.specs.Prelude.{◌≡◌, ◌+◌, ◌-◌, ◌<◌, ◌≤◌, true, ◌++◌, map, length, take, replicate, pos};
 ghost use Rattle.tableau.specs.Lines.{start_line, start_lines};
 ghost use Rattle.pivot.specs.Shapes.{LineOk, LinesOk, seen};
@@ -12,7 +13,7 @@ use problems::quantity::{MOST, QUANTITIES, RowEnds, Span};
 use tableau::line::Line;
 
 // What stands past the last line, and past the last end.
-const NO_LINE: Line = Line {
+pub(crate) const NO_LINE: Line = Line {
     basic: 0,
     nums: [0; QUANTITIES],
 };
@@ -31,9 +32,7 @@ fn first_line(coefs: &[i64], m: usize, i: usize) -> Line
     ensures ok { LineOk (length coefs.now + m) result }
 {
     let mut nums = [0; QUANTITIES];
-    for j in 0..coefs.len() {
-        nums[j] = coefs[j];
-    }
+    nums[..coefs.len()].copy_from_slice(coefs);
     let basic = coefs.len() + i;
     nums[basic] = -1;
     Line { basic, nums }
@@ -46,10 +45,23 @@ pub(crate) fn first_lines(problem: &Problem) -> [Line; MOST]
 {
     let mut lines = [NO_LINE; MOST];
     let m = problem.rows();
-    for i in 0..m {
-        lines[i] = first_line(problem.coefs(i), m, i);
+    for (i, line) in lines[..m].iter_mut().enumerate() {
+        *line = first_line(problem.coefs(i), m, i);
     }
     lines
+}
+
+// What `of` makes of each variable, and `past` after the last.
+fn table<T: Copy, F: Fn(Span) -> T>(vars: &[Span], past: T, of: F) -> [T; QUANTITIES]
+    requires few { length vars.now ≤ 12 }
+    requires callable { F.IsAlwaysCallable of }
+    ensures { (makes : Span → T) → ((s : Span) (x : T) → F.post of s x → x ≡ makes s) → result ≡ map makes vars.now ++ replicate (24 - length vars.now) past }
+{
+    let mut all = [past; QUANTITIES];
+    for (v, s) in vars.iter().enumerate() {
+        all[v] = of(*s);
+    }
+    all
 }
 
 // The lower ends of the variables, and 0 for each row.
@@ -57,11 +69,7 @@ pub(crate) fn first_values(vars: &[Span]) -> [i64; QUANTITIES]
     requires { length vars.now ≤ 12 }
     ensures { result ≡ lowers vars.now ++ replicate (24 - length vars.now) (pos 0) }
 {
-    let mut values = [0; QUANTITIES];
-    for v in 0..vars.len() {
-        values[v] = vars[v].lower;
-    }
-    values
+    table(vars, 0, |s| s.lower)
 }
 
 // The ends of a variable, both present.
@@ -74,18 +82,6 @@ fn span_ends(s: Span) -> RowEnds
     }
 }
 
-// The ends of the variables.
-fn variable_ends(vars: &[Span]) -> [RowEnds; QUANTITIES]
-    requires { length vars.now ≤ 12 }
-    ensures { take (length vars.now) result ≡ map span_ends vars.now }
-{
-    let mut all = [NO_ENDS; QUANTITIES];
-    for v in 0..vars.len() {
-        all[v] = span_ends(vars[v]);
-    }
-    all
-}
-
 // The ends of all quantities.
 pub(crate) fn all_ends(vars: &[Span], rows: &[RowEnds]) -> [RowEnds; QUANTITIES]
     requires variables { length vars.now ≤ 12 }
@@ -93,9 +89,7 @@ pub(crate) fn all_ends(vars: &[Span], rows: &[RowEnds]) -> [RowEnds; QUANTITIES]
     ensures { take (length vars.now + length rows.now) result ≡ map span_ends vars.now ++ rows.now }
 {
     let n = vars.len();
-    let mut all = variable_ends(vars);
-    for i in 0..rows.len() {
-        all[n + i] = rows[i];
-    }
+    let mut all = table(vars, NO_ENDS, span_ends);
+    all[n..n + rows.len()].copy_from_slice(rows);
     all
 }

@@ -24,15 +24,13 @@ impl Pivot {
     pub fn new(limit: i64) -> Result<Pivot, Refused>
         ensures value { limit_of result ≡ granted_limit limit }
     {
-        if limit < 0 || limit > MOST_PIVOTS {
-            return Err(Refused {
+        match u32::try_from(limit) {
+            Ok(pivots) if limit <= MOST_PIVOTS => Ok(Pivot { limit: pivots }),
+            _ => Err(Refused {
                 why: Refusal::Range,
                 place: 0,
-            });
+            }),
         }
-        Ok(Pivot {
-            limit: limit as u32,
-        })
     }
 }
 

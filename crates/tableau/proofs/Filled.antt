@@ -3,10 +3,9 @@ use Rattle.std.proofs.Common.{◌≡◌, ℕ, zero, suc, ◌+◌, ◌*◌, ◌<�
 use native.Mathlib.Nat.{eq_of_mul-eq-mul_left, le_of_mul-le-mul_left}
 use lib.IntN.{*ℤ-zero, zero-*ℤ, *ℤ_comm}
 use borrow.Author.Differences.{ints, up, down, same_in, at_most_in}
-use Rattle.std.proofs.lemmas.Bool.{cases_eq, cond-true, cond-false, ne_eqb}
+use Rattle.std.proofs.lemmas.Bool.{cases_eq, cond-true, cond-false, ne_eqb, eq-eqb}
 use Rattle.std.proofs.lemmas.List.{length-set, get_or-set_same, get_or-set_other}
 use Rattle.problems.specs.Rows.{dot, scale}
-use Rattle.problems.proofs.Tests.{eqb_same}
 use Rattle.testers.specs.Ring.{out, lin, mul_mono, mul_assoc}
 use Rattle.testers.specs.Dots.{dot_cons, get_or_drop_one}
 use Rattle.testers.specs.Halves.{length_scale}
@@ -174,7 +173,7 @@ filled_holds ls z s inside zeros =
 pub value_basic : (values : List ℤ) (ls : List Line) → Apart ls → (i : ℕ) → i < length ls
     → value (get_or ls i blank).basic values ls ≡ record { num = dot (get_or ls i blank).nums values; den = den (get_or ls i blank) }
 value_basic values [] a i h = absurd (not-suc-le-zero h)
-value_basic values (l ∷ ls) a zero h = cond-true (eqb l.basic l.basic) _ _ (eqb_same l.basic)
+value_basic values (l ∷ ls) a zero h = cond-true (eqb l.basic l.basic) _ _ (eq-eqb l.basic l.basic refl)
 value_basic values (l ∷ ls) a (suc i) h =
     cond-false (eqb l.basic (get_or ls i blank).basic) _ _ (ne_eqb _ _ (λ e. let z = a 0 (suc i) (omega arith) h e in omega arith)) ∙ value_basic values ls (rest_apart l ls a) i (le_of_suc-le-suc h)
 

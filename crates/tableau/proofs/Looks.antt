@@ -1,13 +1,12 @@
 -- What a look says: the quantity that leaves is basic and goes to a present end, the one that enters is nonbasic and stands in its line. So what every such pivot keeps, a run keeps.
 use Rattle.std.proofs.Common.{◌≡◌, ℕ, zero, suc, ◌+◌, ◌<◌, Bool, true, cond, not, ◌&&◌, eqb, ltb, List, [], ◌∷◌, length, get_or, ℤ, pos, Some, None, Option, sym, refl, ap, ◌∙◌, subst, inl, inr, arith}
 use mathlib.Core.Bool.{false≢true}
-use Rattle.std.proofs.lemmas.Bool.{eqb-false}
+use Rattle.std.proofs.lemmas.Bool.{eqb-false, and_parts, cond_both, not-true}
 use Rattle.problems.specs.declared.quantity.RowEnds.{RowEnds}
 use Rattle.problems.specs.declared.quantity.Side.{Side}
 use Rattle.problems.specs.declared.quantity.Side.TheVariants.{Lower, Upper}
 use Rattle.problems.specs.Rows.{dot}
 use Rattle.problems.specs.Box.{no_ends}
-use Rattle.problems.proofs.Tests.{by_cond, and_true, not_true}
 use Rattle.testers.specs.Halving.{exceeds, falls_short}
 use Rattle.tableau.specs.declared.line.Line.{Line}
 use Rattle.tableau.specs.declared.run.Violation.{Violation}
@@ -46,9 +45,9 @@ violation_named ends values i l ls =
     let z = dot l.nums values in
     let P : Option Side → Type 0 = λ o. NamedIf ends i (l ∷ ls) (found i l.basic o) in
     let upper = cond (exceeds z (scaled (den l) e.upper)) (Some Upper) None in
-    by_cond P (falls_short z (scaled (den l) e.lower)) (Some Lower) upper
+    cond_both (falls_short z (scaled (den l) e.lower)) (Some Lower) upper P
     (λ y. record { at = 0; there = omega arith; place_is = omega arith; names = refl; seated = inl (short_present z (den l) e.lower y) })
-    (λ _. by_cond P (exceeds z (scaled (den l) e.upper)) (Some Upper) None
+    (λ _. cond_both (exceeds z (scaled (den l) e.upper)) (Some Upper) None P
     (λ y. record { at = 0; there = omega arith; place_is = omega arith; names = refl; seated = inr (over_present z (den l) e.upper y) }) (λ _. tt))
 
 named_later : (ends : List RowEnds) (i : ℕ) (l : Line) (ls : List Line) (o : Option Violation) → NamedIf ends (suc i) ls o → NamedIf ends i (l ∷ ls) o
@@ -61,7 +60,7 @@ named_later ends i l ls (Some f) n =
 earlier_named : (ends : List RowEnds) (i : ℕ) (ls : List Line) (a b : Option Violation) → NamedIf ends i ls a → NamedIf ends i ls b → NamedIf ends i ls (earlier a b)
 earlier_named ends i ls None b p q = q
 earlier_named ends i ls (Some a) None p q = p
-earlier_named ends i ls (Some a) (Some b) p q = by_cond (NamedIf ends i ls) (ltb b.basic a.basic) (Some b) (Some a) (λ _. q) (λ _. p)
+earlier_named ends i ls (Some a) (Some b) p q = cond_both (ltb b.basic a.basic) (Some b) (Some a) (NamedIf ends i ls) (λ _. q) (λ _. p)
 
 outside_named : (ends : List RowEnds) (values : List ℤ) (i : ℕ) (ls : List Line) → NamedIf ends i ls (outside ends values i ls)
 outside_named ends values i [] = tt
@@ -93,8 +92,8 @@ entering_helps : (side : Side) (ends : List RowEnds) (values : List ℤ) (l : Li
 entering_helps side ends values l q zero = tt
 entering_helps side ends values l q (suc n) =
     let e : suc q + n ≡ q + suc n = omega arith in
-    by_cond (HelpsIf (q + suc n) l) (fit side ends values l q) (Some q) (entering side ends values l (suc q) n)
-    (λ t. let h = and_true _ _ t in record { inside = omega arith; apart = eqb-false q l.basic (not_true _ h.0); moves = suitable_nonzero side _ _ _ h.1 })
+    cond_both (fit side ends values l q) (Some q) (entering side ends values l (suc q) n) (HelpsIf (q + suc n) l)
+    (λ t. let h = and_parts _ _ t in record { inside = omega arith; apart = eqb-false q l.basic (not-true _ h.0); moves = suitable_nonzero side _ _ _ h.1 })
     (λ _. subst (λ k. HelpsIf k l (entering side ends values l (suc q) n)) e (entering_helps side ends values l (suc q) n))
 
 -- ---- a look
@@ -150,4 +149,4 @@ unfolding run
 run_keeps P ends k w zero t p = go_keeps P (λ next. gave_way t) ends k t (look ends k t) w (look_good ends k t) p (λ next _. p)
 run_keeps P ends k w (suc limit) t p =
     go_keeps P (if_small (run limit ends k)) ends k t (look ends k t) w (look_good ends k t) p
-    (λ next h. by_cond (λ (r : Run). P r.tableau) (small_lines next.lines) (run limit ends k next) (gave_way next) (λ _. run_keeps P ends k w limit next h) (λ _. h))
+    (λ next h. cond_both (small_lines next.lines) (run limit ends k next) (gave_way next) (λ (r : Run). P r.tableau) (λ _. run_keeps P ends k w limit next h) (λ _. h))

@@ -2,10 +2,9 @@
 use Rattle.std.proofs.Common.{◌≡◌, ℕ, zero, suc, ◌<◌, eqb, List, [], ◌∷◌, length, get_or, set, ℤ, pos, ◌<ℤ◌, sym, refl, ap, ◌∙◌, subst, ⊎_elim, le_of_suc-le-suc, not-suc-le-zero, arith}
 use borrow.Author.Differences.{ints}
 use Rattle.std.proofs.lemmas.List.{length-set, get_or-set_same, get_or-set_other}
-use Rattle.std.proofs.lemmas.Bool.{eqb-false, cases_eq}
+use Rattle.std.proofs.lemmas.Bool.{eqb-false, cases_eq, cond_both, eqb-true}
 use Rattle.problems.specs.Rows.{dot}
 use Rattle.problems.specs.Box.{Box, no_ends}
-use Rattle.problems.proofs.Tests.{by_cond, eqb_true}
 use Rattle.tableau.specs.declared.line.Line.{Line}
 use Rattle.tableau.specs.declared.run.Violation.{Violation}
 use Rattle.tableau.specs.Lines.{blank, turned, substituted}
@@ -31,7 +30,7 @@ each_exchanged : (P : Line → Type 0) (place q : ℕ) (t : Line) (ls : List Lin
     → ((i ≡ place → ⊥) → P (substituted q t (get_or ls i blank))) → P (get_or (exchanged place q t 0 ls) i blank)
 each_exchanged P place q t ls i h a b =
     subst P (sym (exchanged_at place q t ls i h))
-    (by_cond P (eqb i place) t (substituted q t (get_or ls i blank)) (λ y. a (eqb_true i place y)) (λ n. b (eqb-false i place n)))
+    (cond_both (eqb i place) t (substituted q t (get_or ls i blank)) P (λ y. a (eqb-true i place y)) (λ n. b (eqb-false i place n)))
 
 exchanged_there : (place q : ℕ) (t : Line) (ls : List Line) → place < length ls → get_or (exchanged place q t 0 ls) place blank ≡ t
 exchanged_there place q t ls h = each_exchanged (λ x. x ≡ t) place q t ls place h (λ _. refl) (λ n. absurd (n refl))

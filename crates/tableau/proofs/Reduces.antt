@@ -5,9 +5,8 @@ use lib.IntN.{*ℤ-zero}
 use borrow.Author.Differences.{ints, up, down, at_most_in}
 use Rattle.std.specs.Int.{int_div_euclid}
 use Rattle.std.proofs.lemmas.Int.{by_lt_z}
-use Rattle.std.proofs.lemmas.Bool.{ltb-true, ltb-false}
+use Rattle.std.proofs.lemmas.Bool.{ltb-true, ltb-false, cond_both}
 use Rattle.problems.specs.Rows.{scale, dot}
-use Rattle.problems.proofs.Tests.{by_cond}
 use Rattle.testers.specs.Gcd.{gcd, Divides}
 use Rattle.testers.proofs.Gcds.{gcd_is_greatest, divides_through}
 use Rattle.testers.specs.Ring.{lin, mul_neg, mul_mono}
@@ -74,7 +73,7 @@ divided_multiple (suc n) r h d = record { less_one = n; same = sym (divided_back
 pub reduced_multiple : (r : List ℤ) → Multiple r (reduced r)
 reduced_multiple r =
     let g = gcd_all 0 r in
-    by_cond (Multiple r) (ltb 1 g) (divide_all (pos g) r) r (λ y. divided_multiple g r (ltb-true 1 g y) (gcd_all_divides 0 r).1)
+    cond_both (ltb 1 g) (divide_all (pos g) r) r (Multiple r) (λ y. divided_multiple g r (ltb-true 1 g y) (gcd_all_divides 0 r).1)
     (λ _. record { less_one = 0; same = sym (scale_one r) })
 
 length_divide : (g : ℤ) (r : List ℤ) → length (divide_all g r) ≡ length r
@@ -84,7 +83,7 @@ length_divide g (a ∷ r) = ap suc (length_divide g r)
 pub length_reduced : (r : List ℤ) → length (reduced r) ≡ length r
 length_reduced r =
     let g = gcd_all 0 r in
-    by_cond (λ (x : List ℤ). length x ≡ length r) (ltb 1 g) (divide_all (pos g) r) r (λ _. length_divide (pos g) r) (λ _. refl)
+    cond_both (ltb 1 g) (divide_all (pos g) r) r (λ (x : List ℤ). length x ≡ length r) (λ _. length_divide (pos g) r) (λ _. refl)
 
 multiple_dot : (r s x : List ℤ) (m : Multiple r s) → dot r x ≡ pos (suc m.less_one) *ℤ dot s x
 multiple_dot r s x m = ap (λ (t : List ℤ). dot t x) m.same ∙ dot_scale (pos (suc m.less_one)) s x
@@ -148,5 +147,5 @@ gcd_one (suc (suc g)) r j l d n = absurd (omega arith)
 pub reduced_coprime : (r : List ℤ) (j : ℕ) → (get_or r j (pos 0) ≡ pos 0 → ⊥) → (h : ℕ) → DividesAll h (reduced r) → h ≡ 1
 reduced_coprime r j n h =
     let g = gcd_all 0 r in
-    by_cond (λ (x : List ℤ). DividesAll h x → h ≡ 1) (ltb 1 g) (divide_all (pos g) r) r (λ y. divided_coprime g h r refl (ltb-true 1 g y))
+    cond_both (ltb 1 g) (divide_all (pos g) r) r (λ (x : List ℤ). DividesAll h x → h ≡ 1) (λ y. divided_coprime g h r refl (ltb-true 1 g y))
     (λ y d. divides_one h (subst (Divides h) (gcd_one g r j (ltb-false 1 g y) (gcd_all_divides 0 r).1 n) (gcd_all_greatest h 0 r (0, omega arith) d)))

@@ -4,7 +4,7 @@ use mathlib.Core.Bool.{false≢true}
 use lib.IntN.{*ℤ-zero, zero-*ℤ}
 use lib.Signed.{≤ℤ_refl}
 use borrow.Author.Differences.{ints}
-use Rattle.std.proofs.lemmas.Bool.{cases_eq}
+use Rattle.std.proofs.lemmas.Bool.{cases_eq, and_from, and_parts, le-leb, leb-true}
 use Rattle.std.proofs.lemmas.List.{length-drop, length-set, length-append, length-map, length-take-le, take-append-drop, get_or-set_same, get_or-set_other}
 use Rattle.problems.specs.declared.quantity.Span.{Span}
 use Rattle.problems.specs.declared.quantity.RowEnds.{RowEnds}
@@ -13,7 +13,6 @@ use Rattle.problems.specs.declared.quantity.Side.TheVariants.{Lower, Upper}
 use Rattle.problems.specs.Whole.{positive, negative, within, all_within}
 use Rattle.problems.specs.Rows.{dot, add, scale, comb, values}
 use Rattle.problems.specs.Box.{Box, Proper, no_ends}
-use Rattle.problems.proofs.Tests.{and_true, both_true, leb_true, leb_is, lt_z_true, lt_z_false, lt_z_is}
 use Rattle.problems.proofs.Propers.{RowLists, rows_from}
 use Rattle.testers.specs.Leaf.{all_zero, most, variables_total, times, most_row, plus, rows_total, sum_below_zero}
 use Rattle.testers.specs.Tester.{LawfulAnswer}
@@ -33,6 +32,7 @@ use Rattle.tableau.specs.Sound.{Hold}
 use Rattle.tableau.proofs.Keeps.{Kept, quantities}
 use Rattle.tableau.proofs.LastLook.{Violates, Found, look_stuck, outside_found, entering_none}
 use Rattle.tableau.proofs.Points.{dot_append, dot_set, pad, length_pad, dot_pad, values_pad, start_holds, hold_at}
+use Rattle.problems.proofs.Tests.{lt_z_true, lt_z_false, lt_z_is}
 
 -- ---- an end bounds a multiple
 
@@ -156,9 +156,9 @@ turn_zero Upper z e = ap neg_ℤ e
 minus_within : (n : ℕ) (r : List ℤ) → all_within n r ≡ true → all_within n (scale (negsuc 0) r) ≡ true
 minus_within n [] h = refl
 minus_within n (a ∷ r) h =
-    let p = and_true (within n a) (all_within n r) h in
-    let k = leb_true _ _ p.0 in
-    both_true _ _ (leb_is _ _ (omega (arith, ints))) (minus_within n r p.1)
+    let p = and_parts (within n a) (all_within n r) h in
+    let k = leb-true _ _ p.0 in
+    and_from _ _ (le-leb _ _ (omega (arith, ints))) (minus_within n r p.1)
 
 multipliers_within : (side : Side) (n : ℕ) (r : List ℤ) → all_within n r ≡ true → all_within n (multipliers side r) ≡ true
 multipliers_within Lower n r h = h
@@ -167,17 +167,17 @@ multipliers_within Upper n r h = minus_within n r h
 take_within : (n k : ℕ) (r : List ℤ) → all_within n r ≡ true → all_within n (take k r) ≡ true
 take_within n zero r h = refl
 take_within n (suc k) [] h = refl
-take_within n (suc k) (a ∷ r) h = let p = and_true (within n a) (all_within n r) h in both_true _ _ p.0 (take_within n k r p.1)
+take_within n (suc k) (a ∷ r) h = let p = and_parts (within n a) (all_within n r) h in and_from _ _ p.0 (take_within n k r p.1)
 
 drop_within : (n k : ℕ) (r : List ℤ) → all_within n r ≡ true → all_within n (drop k r) ≡ true
 drop_within n zero r h = h
 drop_within n (suc k) [] h = refl
-drop_within n (suc k) (a ∷ r) h = drop_within n k r (and_true (within n a) (all_within n r) h).1
+drop_within n (suc k) (a ∷ r) h = drop_within n k r (and_parts (within n a) (all_within n r) h).1
 
 small_at : (ls : List Line) → small_lines ls ≡ true → (i : ℕ) → i < length ls → all_within 1000000000 (get_or ls i blank).nums ≡ true
 small_at [] h i k = absurd (not-suc-le-zero k)
-small_at (l ∷ ls) h zero k = (and_true (all_within 1000000000 l.nums) (small_lines ls) h).0
-small_at (l ∷ ls) h (suc i) k = small_at ls (and_true (all_within 1000000000 l.nums) (small_lines ls) h).1 i (le_of_suc-le-suc k)
+small_at (l ∷ ls) h zero k = (and_parts (all_within 1000000000 l.nums) (small_lines ls) h).0
+small_at (l ∷ ls) h (suc i) k = small_at ls (and_parts (all_within 1000000000 l.nums) (small_lines ls) h).1 i (le_of_suc-le-suc k)
 
 -- ---- totals
 
@@ -314,9 +314,9 @@ module _ (rows : List (List ℤ)) (box : Box) (t : Tableau) (f : Violation) (p :
       let s = whole_total in
       let parts = take-append-drop n ms in
       let w = multipliers_within f.side 1000000000 l.nums (small_at t.lines small f.place found.there) in
-      both_true _ _
+      and_from _ _
       (formed_by rows box (take n ms) (drop n ms) first_long last_long (take_within 1000000000 n ms w) (drop_within 1000000000 n ms w))
-      (both_true _ _
+      (and_from _ _
       (cancelled n rows (take n ms) (drop n ms) (rows_from n rows p.coefficients) first_long (λ x k. subst (λ r. dot r (x ++ values rows x) ≡ pos 0) (sym parts) (line_zero x k)))
       (below_zero (variables_total (take n ms) box.vars) s.0 (rows_total (drop n ms) box.rows)
       (sym (by_parts (take n ms) (drop n ms) box.vars box.rows first_long) ∙ subst (λ r. rows_total r (ends_of box) ≡ Some s.0) (sym parts) s.1) s.2))

@@ -1,11 +1,10 @@
 -- The start has all that a run keeps, so every tableau of a run has it; and where a run stops, the last look says why.
 use Rattle.std.proofs.Common.{◌≡◌, ℕ, zero, suc, ◌+◌, ◌-◌, ◌<◌, ◌≤◌, true, List, [], ◌∷◌, ◌++◌, map, length, get_or, replicate, ℤ, pos, negsuc, nat_abs, sym, refl, ap, ◌∙◌, subst, inl, ⊎_elim, le_of_suc-le-suc, not-suc-le-zero, arith}
 use Rattle.std.proofs.lemmas.List.{length-append, length-replicate, get_or-append-add}
-use Rattle.std.proofs.lemmas.Bool.{cases_lt}
+use Rattle.std.proofs.lemmas.Bool.{cases_lt, and_from, cond_both}
 use Rattle.problems.specs.declared.quantity.Span.{Span}
 use Rattle.problems.specs.declared.quantity.RowEnds.{RowEnds}
 use Rattle.problems.specs.Box.{Box, Proper, no_ends}
-use Rattle.problems.proofs.Tests.{by_cond, both_true}
 use Rattle.problems.proofs.Builds.{within_append}
 use Rattle.problems.proofs.Propers.{RowLists, rows_from, row_length}
 use Rattle.testers.specs.Gcd.{Divides}
@@ -103,7 +102,7 @@ run_kept rows box p limit =
 pub start_small : (n m i : ℕ) (rs : List (List ℤ)) → RowLists n rs → small_lines (start_lines m i rs) ≡ true
 start_small n m i [] h = refl
 start_small n m i (r ∷ rs) h =
-    both_true _ _ (within_append 1000000000 r (single m i (negsuc 0)) (coefs_within r h.1) (single_within m i (negsuc 0) (omega arith))) (start_small n m (suc i) rs h.2)
+    and_from _ _ (within_append 1000000000 r (single m i (negsuc 0)) (coefs_within r h.1) (single_within m i (negsuc 0) (omega arith))) (start_small n m (suc i) rs h.2)
 
 go_ended : (further : Tableau → Run) (ends : List RowEnds) (k : ℕ) (t : Tableau) (s : Step) → look ends k t ≡ s → small_lines t.lines ≡ true
     → ((next : Tableau) → Ended ends k (further next).tableau (further next).stop) → Ended ends k (go further ends t s).tableau (go further ends t s).stop
@@ -116,7 +115,7 @@ unfolding run
 run_ends zero ends k t h = go_ended (λ next. gave_way t) ends k t (look ends k t) refl h (λ next. tt)
 run_ends (suc limit) ends k t h =
     go_ended (if_small (run limit ends k)) ends k t (look ends k t) refl h
-    (λ next. by_cond (λ (r : Run). Ended ends k r.tableau r.stop) (small_lines next.lines) (run limit ends k next) (gave_way next) (λ y. run_ends limit ends k next y) (λ _. tt))
+    (λ next. cond_both (small_lines next.lines) (run limit ends k next) (gave_way next) (λ (r : Run). Ended ends k r.tableau r.stop) (λ y. run_ends limit ends k next y) (λ _. tt))
 
 pub run_ended : (rows : List (List ℤ)) (box : Box) → Proper rows box → (limit : ℕ)
     → Ended (ends_of box) (quantities rows box) (run_on limit rows box).tableau (run_on limit rows box).stop

@@ -11,7 +11,6 @@ use Rattle.problems.specs.Whole.{is_zero}
 use Rattle.problems.specs.Rows.{dot, scale, values}
 use Rattle.problems.specs.Ranges.{span_proper, spans_proper, in_order, in_reach, ends_proper, row_ends_proper}
 use Rattle.problems.specs.Box.{Box, Above, Below, Inside, Kept as RowsKept, IsPlan, splits, nowhere, no_ends, Proper}
-use Rattle.problems.proofs.Tests.{by_bool, and_true, lt_z_false, le_z_true, zero_is, eq_z_is}
 use Rattle.problems.proofs.Propers.{rows_from}
 use Rattle.testers.specs.Tester.{LawfulAnswer}
 use Rattle.testers.specs.Halving.{exceeds, falls_short}
@@ -31,6 +30,8 @@ use Rattle.tableau.proofs.Keeps.{Kept, quantities}
 use Rattle.tableau.proofs.LastLook.{look_standing, outside_none}
 use Rattle.tableau.proofs.Points.{dot_times, start_rows}
 use Rattle.tableau.proofs.Filled.{suc_of, cancel, cancel_le, Basic, cases_basic, solved_dens, solved_apart, common, common_positive, filled, at_scale, length_filled, filled_other, filled_own, filled_holds, value_basic, value_nonbasic}
+use Rattle.std.proofs.lemmas.Bool.{and_parts}
+use Rattle.problems.proofs.Tests.{by_bool, lt_z_false, le_z_true, zero_is, eq_z_is}
 
 -- ---- z / d within an end
 
@@ -66,14 +67,14 @@ at_end e x a h = ⊎_elim (λ (k : e.lower ≡ Some x). at_lower e.lower e.upper
 
 row_ordered : (es : List RowEnds) → row_ends_proper es ≡ true → (q : ℕ) → in_order (get_or es q no_ends).lower (get_or es q no_ends).upper ≡ true
 row_ordered [] h q = refl
-row_ordered (e ∷ es) h zero = (and_true (in_order e.lower e.upper) _ (and_true _ (in_reach e.upper) (and_true (ends_proper e) (row_ends_proper es) h).0).0).0
-row_ordered (e ∷ es) h (suc q) = row_ordered es (and_true (ends_proper e) (row_ends_proper es) h).1 q
+row_ordered (e ∷ es) h zero = (and_parts (in_order e.lower e.upper) _ (and_parts _ (in_reach e.upper) (and_parts (ends_proper e) (row_ends_proper es) h).0).0).0
+row_ordered (e ∷ es) h (suc q) = row_ordered es (and_parts (ends_proper e) (row_ends_proper es) h).1 q
 
 ordered : (ss : List Span) (es : List RowEnds) → spans_proper ss ≡ true → row_ends_proper es ≡ true
     → (q : ℕ) → in_order (get_or (map span_ends ss ++ es) q no_ends).lower (get_or (map span_ends ss ++ es) q no_ends).upper ≡ true
 ordered [] es h k q = row_ordered es k q
-ordered (s ∷ ss) es h k zero = (and_true _ _ (and_true _ _ (and_true (span_proper s) (spans_proper ss) h).0).0).0
-ordered (s ∷ ss) es h k (suc q) = ordered ss es (and_true (span_proper s) (spans_proper ss) h).1 k q
+ordered (s ∷ ss) es h k zero = (and_parts _ _ (and_parts _ _ (and_parts (span_proper s) (spans_proper ss) h).0).0).0
+ordered (s ∷ ss) es h k (suc q) = ordered ss es (and_parts (span_proper s) (spans_proper ss) h).1 k q
 
 -- ---- whole values
 

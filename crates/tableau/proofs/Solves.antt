@@ -6,12 +6,11 @@ use lib.IntN.{*ℤ-zero}
 use borrow.Author.Differences.{ints}
 use Rattle.std.specs.Int.{int_div_euclid}
 use Rattle.std.proofs.lemmas.List.{get_or-append-add}
-use Rattle.std.proofs.lemmas.Bool.{eqb-false}
+use Rattle.std.proofs.lemmas.Bool.{eqb-false, cond_both, eqb-true}
 use Rattle.problems.specs.declared.quantity.RowEnds.{RowEnds}
 use Rattle.problems.specs.Whole.{is_zero, positive}
 use Rattle.problems.specs.Rows.{add, scale}
 use Rattle.problems.specs.Ranges.{rows_proper}
-use Rattle.problems.proofs.Tests.{by_cond, eqb_true, zero_is}
 use Rattle.problems.proofs.Propers.{row_length}
 use Rattle.testers.specs.Halving.{single}
 use Rattle.testers.specs.Ring.{out, mul_mono}
@@ -20,6 +19,7 @@ use Rattle.tableau.specs.Lines.{blank, start_line, start_lines, gcd_all, divide_
 use Rattle.tableau.specs.Tableau.{Tableau, exchanged, run}
 use Rattle.tableau.specs.Sound.{Solved, DensOk}
 use Rattle.tableau.proofs.Looks.{run_keeps}
+use Rattle.problems.proofs.Tests.{zero_is}
 
 -- ---- rows at a place
 
@@ -46,13 +46,13 @@ divided_negative g (negsuc n) h = omega (arith, ints)
 pub reduced_zero : (r : List ℤ) (j : ℕ) → get_or r j (pos 0) ≡ pos 0 → get_or (reduced r) j (pos 0) ≡ pos 0
 reduced_zero r j e =
     let g = gcd_all 0 r in
-    by_cond (λ (x : List ℤ). get_or x j (pos 0) ≡ pos 0) (ltb 1 g) (divide_all (pos g) r) r
+    cond_both (ltb 1 g) (divide_all (pos g) r) r (λ (x : List ℤ). get_or x j (pos 0) ≡ pos 0)
     (λ _. at_divide g r j ∙ ap (λ z. int_div_euclid z (pos g)) e ∙ ap pos (zero-div g)) (λ _. e)
 
 reduced_negative : (r : List ℤ) (j : ℕ) → get_or r j (pos 0) <ℤ pos 0 → get_or (reduced r) j (pos 0) <ℤ pos 0
 reduced_negative r j h =
     let g = gcd_all 0 r in
-    by_cond (λ (x : List ℤ). get_or x j (pos 0) <ℤ pos 0) (ltb 1 g) (divide_all (pos g) r) r
+    cond_both (ltb 1 g) (divide_all (pos g) r) r (λ (x : List ℤ). get_or x j (pos 0) <ℤ pos 0)
     (λ _. subst (λ (z : ℤ). z <ℤ pos 0) (sym (at_divide g r j)) (divided_negative g (get_or r j (pos 0)) h)) (λ _. h)
 
 pub is_positive : (a : ℤ) → positive a ≡ true → pos 0 <ℤ a
@@ -68,13 +68,13 @@ not_positive (negsuc m) e n = omega (arith, ints)
 pub turned_negative : (q : ℕ) (l : Line) → (get_or l.nums q (pos 0) ≡ pos 0 → ⊥) → get_or (turned q l).nums q (pos 0) <ℤ pos 0
 turned_negative q l n =
     let a = get_or l.nums q (pos 0) in
-    by_cond (λ (x : List ℤ). get_or x q (pos 0) <ℤ pos 0) (positive a) (scale (negsuc 0) l.nums) l.nums
+    cond_both (positive a) (scale (negsuc 0) l.nums) l.nums (λ (x : List ℤ). get_or x q (pos 0) <ℤ pos 0)
     (λ p. let h = is_positive a p in let e = at_scale (negsuc 0) l.nums q in omega (arith, ints))
     (λ p. not_positive a p n)
 
 pub turned_zero : (q : ℕ) (l : Line) (j : ℕ) → get_or l.nums j (pos 0) ≡ pos 0 → get_or (turned q l).nums j (pos 0) ≡ pos 0
 turned_zero q l j z =
-    by_cond (λ (x : List ℤ). get_or x j (pos 0) ≡ pos 0) (positive (get_or l.nums q (pos 0))) (scale (negsuc 0) l.nums) l.nums
+    cond_both (positive (get_or l.nums q (pos 0))) (scale (negsuc 0) l.nums) l.nums (λ (x : List ℤ). get_or x j (pos 0) ≡ pos 0)
     (λ p. at_scale (negsuc 0) l.nums j ∙ ap (λ a. negsuc 0 *ℤ a) z) (λ p. z)
 
 -- what r comes to where q stands in it
@@ -97,7 +97,7 @@ mixed_zero q t r j et er =
 
 cleared_zero : (q : ℕ) (t r : List ℤ) (j : ℕ) → get_or t j (pos 0) ≡ pos 0 → get_or r j (pos 0) ≡ pos 0 → get_or (cleared q t r) j (pos 0) ≡ pos 0
 cleared_zero q t r j et er =
-    by_cond (λ (x : List ℤ). get_or x j (pos 0) ≡ pos 0) (is_zero (get_or r q (pos 0))) r (mixed q t r) (λ _. er) (λ _. mixed_zero q t r j et er)
+    cond_both (is_zero (get_or r q (pos 0))) r (mixed q t r) (λ (x : List ℤ). get_or x j (pos 0) ≡ pos 0) (λ _. er) (λ _. mixed_zero q t r j et er)
 
 cancels_out : (a b : ℤ) → neg_ℤ a *ℤ b +ℤ b *ℤ a ≡ pos 0
 cancels_out a b = simp out (omega (arith, ints))
@@ -106,7 +106,7 @@ cleared_at : (q : ℕ) (t r : List ℤ) → get_or (cleared q t r) q (pos 0) ≡
 cleared_at q t r =
     let p = neg_ℤ (get_or t q (pos 0)) in
     let c = get_or r q (pos 0) in
-    by_cond (λ (x : List ℤ). get_or x q (pos 0) ≡ pos 0) (is_zero c) r (mixed q t r) (λ e. zero_is c e)
+    cond_both (is_zero c) r (mixed q t r) (λ (x : List ℤ). get_or x q (pos 0) ≡ pos 0) (λ e. zero_is c e)
     (λ _. reduced_zero (add (scale p r) (scale c t)) q (at_mix p c r t q ∙ cancels_out (get_or t q (pos 0)) c))
 
 product_negative : (a b : ℤ) → a <ℤ pos 0 → b <ℤ pos 0 → (neg_ℤ a *ℤ b) <ℤ pos 0
@@ -129,7 +129,7 @@ mixed_negative q t r j ht et hr =
 cleared_negative : (q : ℕ) (t r : List ℤ) (j : ℕ) → get_or t q (pos 0) <ℤ pos 0 → get_or t j (pos 0) ≡ pos 0 → get_or r j (pos 0) <ℤ pos 0
     → get_or (cleared q t r) j (pos 0) <ℤ pos 0
 cleared_negative q t r j ht et hr =
-    by_cond (λ (x : List ℤ). get_or x j (pos 0) <ℤ pos 0) (is_zero (get_or r q (pos 0))) r (mixed q t r) (λ _. hr) (λ _. mixed_negative q t r j ht et hr)
+    cond_both (is_zero (get_or r q (pos 0))) r (mixed q t r) (λ (x : List ℤ). get_or x j (pos 0) <ℤ pos 0) (λ _. hr) (λ _. mixed_negative q t r j ht et hr)
 
 -- ---- lines at a place
 
@@ -163,18 +163,18 @@ solved_pivot place q ls s h n =
       own = λ i g.
           let gi : i < length ls = subst (λ (m : ℕ). i < m) size g in
           subst (λ (x : Line). get_or x.nums x.basic (pos 0) <ℤ pos 0) (sym (exchanged_at place q t ls i gi))
-          (by_cond (λ (x : Line). get_or x.nums x.basic (pos 0) <ℤ pos 0) (eqb i place) t (substituted q t (l i)) (λ _. tn)
+          (cond_both (eqb i place) t (substituted q t (l i)) (λ (x : Line). get_or x.nums x.basic (pos 0) <ℤ pos 0) (λ _. tn)
           (λ e. cleared_negative q t.nums (l i).nums (l i).basic tn (turned_zero q (l place) (l i).basic (s.other place i h gi (λ d. eqb-false i place e (sym d)))) (s.own i gi)));
       other = λ i j g k d.
           let gi : i < length ls = subst (λ (m : ℕ). i < m) size g in
           let gj : j < length ls = subst (λ (m : ℕ). j < m) size k in
           subst (λ (x : Line). get_or x.nums (get_or (exchanged place q t 0 ls) j blank).basic (pos 0) ≡ pos 0) (sym (exchanged_at place q t ls i gi))
           (subst (λ (y : Line). get_or (new i).nums y.basic (pos 0) ≡ pos 0) (sym (exchanged_at place q t ls j gj))
-          (by_cond (λ (x : Line). get_or x.nums (new j).basic (pos 0) ≡ pos 0) (eqb i place) t (substituted q t (l i))
-          (λ ei. by_cond (λ (y : Line). get_or t.nums y.basic (pos 0) ≡ pos 0) (eqb j place) t (substituted q t (l j))
-          (λ ej. absurd (d (eqb_true i place ei ∙ sym (eqb_true j place ej))))
+          (cond_both (eqb i place) t (substituted q t (l i)) (λ (x : Line). get_or x.nums (new j).basic (pos 0) ≡ pos 0)
+          (λ ei. cond_both (eqb j place) t (substituted q t (l j)) (λ (y : Line). get_or t.nums y.basic (pos 0) ≡ pos 0)
+          (λ ej. absurd (d (eqb-true i place ei ∙ sym (eqb-true j place ej))))
           (λ ej. turned_zero q (l place) (l j).basic (s.other place j h gj (λ p. eqb-false j place ej (sym p)))))
-          (λ ei. by_cond (λ (y : Line). get_or (cleared q t.nums (l i).nums) y.basic (pos 0) ≡ pos 0) (eqb j place) t (substituted q t (l j))
+          (λ ei. cond_both (eqb j place) t (substituted q t (l j)) (λ (y : Line). get_or (cleared q t.nums (l i).nums) y.basic (pos 0) ≡ pos 0)
           (λ ej. cleared_at q t.nums (l i).nums)
           (λ ej. cleared_zero q t.nums (l i).nums (l j).basic (turned_zero q (l place) (l j).basic (s.other place j h gj (λ p. eqb-false j place ej (sym p)))) (s.other i j gi gj d)))));
     }

@@ -10,6 +10,7 @@ pub struct Violation {
 }
 
 /// What one look at the tableau finds: every quantity within its ends, one that none can help, or two to exchange.
+/// Three outcomes, of which none is a failure.
 #[derive(Clone, Copy)]
 pub enum Step {
     Standing,
@@ -17,7 +18,7 @@ pub enum Step {
     Turn(Violation, usize),
 }
 
-/// How a run of pivots stops.
+/// How a run of pivots stops: in one of three ways, and giving way is an answer like the others.
 #[derive(Clone, Copy)]
 pub enum Stop {
     Stands,

@@ -7,14 +7,14 @@ use Rattle.pivot.proofs.Commons.{gcd_one}
 use Rattle.pivot.proofs.numbers.common.Goals as goal
 
 pub returns-then-g-eq-UNIT : goal.returns-then-g-eq-UNIT
-returns-then-g-eq-UNIT c = sym (gcd_one (drop c.loop-i.i c.args.row.now)) ∙ ap (λ g. gcd_all g (drop c.loop-i.i c.args.row.now)) (sym c.if-g-eq-UNIT.true) ∙ c.loop-i.invariant
+returns-then-g-eq-UNIT c = sym (gcd_one (drop c.loop-a.a-index c.args.row.now)) ∙ ap (λ g. gcd_all g (drop c.loop-a.a-index c.args.row.now)) (sym c.if-g-eq-UNIT.true) ∙ c.loop-a.invariant
 
-pub loop-i-preserved : goal.loop-i-preserved
-loop-i-preserved c =
-    let f : SFits w64 (get_or c.args.row.now c.loop-i.i (pos 0)) = search rules in
+pub loop-a-preserved : goal.loop-a-preserved
+loop-a-preserved c =
+    let f : SFits w64 (get_or c.args.row.now c.loop-a.a-index (pos 0)) = search rules in
     let u = simp to_z-of_z at c.unsigned_abs.ensures.value in
-    let e = c.gcd-g.ensures.value ∙ ap (λ n. gcd n c.loop-i.g) u in
-    ap (λ g. gcd_all g (drop (c.loop-i.i + 1) c.args.row.now)) e ∙ sym (at_drop_more (gcd_all c.loop-i.g) c.args.row.now c.loop-i.i (pos 0) (omega arith)) ∙ c.loop-i.invariant
+    let e = c.gcd-g.ensures.value ∙ ap (λ n. gcd n c.loop-a.g) u in
+    ap (λ g. gcd_all g (drop (c.loop-a.a-index + 1) c.args.row.now)) e ∙ sym (at_drop_more (gcd_all c.loop-a.g) c.args.row.now c.loop-a.a-index (pos 0) (omega arith)) ∙ c.loop-a.invariant
 
 pub returns : goal.returns
-returns c = sym (at_drop_all (gcd_all c.loop-i.g) c.args.row.now c.loop-i.i (omega arith)) ∙ c.loop-i.invariant
+returns c = sym (at_drop_all (gcd_all c.loop-a.g) c.args.row.now c.loop-a.a-index (omega arith)) ∙ c.loop-a.invariant

@@ -7,18 +7,18 @@ use Rattle.pivot.proofs.Casts.{mul_fits, mixed, mixed_small, mixed_back}
 use Rattle.pivot.proofs.Walks.{mix_next, done, within_at, within_from, within_next}
 use Rattle.pivot.proofs.numbers.mix.Goals as goal
 
-pub overflow_mul-row : goal.overflow_mul-row
-overflow_mul-row c =
+pub overflow_mul-x : goal.overflow_mul-x
+overflow_mul-x c =
     let hx = within_from 1000000000 c.loop-i.row c.loop-i.i c.loop-i.invariant.1 in
     simp (to_z-of_z w64 c.args.p c.ranges.p) (mul_fits 1000000000 1000000000 c.args.p (get_or c.loop-i.row c.loop-i.i (pos 0)) c.requires.factor hx (omega arith) (omega arith))
 
-pub overflow_mul-row-in-loop-i : goal.overflow_mul-row-in-loop-i
-overflow_mul-row-in-loop-i c =
+pub overflow_mul-x-in-loop-i : goal.overflow_mul-x-in-loop-i
+overflow_mul-x-in-loop-i c =
     let hy = within_at 1000000000 c.args.t.now c.requires.other c.loop-i.i in
     simp (to_z-of_z w64 c.args.c c.ranges.c) (mul_fits 1000000000 1000000000 c.args.c (get_or c.args.t.now c.loop-i.i (pos 0)) c.requires.multiple hy (omega arith) (omega arith))
 
-pub overflow_add-row : goal.overflow_add-row
-overflow_add-row c =
+pub overflow_add-x : goal.overflow_add-x
+overflow_add-x c =
     let x = get_or c.loop-i.row c.loop-i.i (pos 0) in
     let y = get_or c.args.t.now c.loop-i.i (pos 0) in
     let hx = within_from 1000000000 c.loop-i.row c.loop-i.i c.loop-i.invariant.1 in

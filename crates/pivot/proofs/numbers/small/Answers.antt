@@ -1,23 +1,13 @@
-use Rattle.std.proofs.Common.{get_or, pos, sym, ap, ◌∙◌, arith, w64, SFits, rules}
-use Rattle.std.proofs.lemmas.List.{at_drop_more, at_drop_all}
-use Rattle.std.proofs.lemmas.Int.{to_z-of_z}
+use Rattle.std.proofs.Common.{◌∙◌, ◌&&◌, refl, rules, tests}
+use Rattle.std.specs.List.{list_all}
+use Rattle.std.proofs.lemmas.Iterator.{YieldsList-from_slice}
+use Rattle.std.proofs.lemmas.Iterator.Search.{all_from_yields_List}
+use Rattle.std.proofs.lemmas.List.Recursion.{same_from_clauses}
 use Rattle.problems.specs.Whole.{within, all_within}
-use Rattle.problems.proofs.Builds.{fails_here, passes_here}
 use Rattle.pivot.proofs.numbers.small.Goals as goal
 
-pub returns-then-not-is_small : goal.returns-then-not-is_small
-returns-then-not-is_small c =
-    let a = get_or c.args.row.now c.loop-a.a-index (pos 0) in
-    let f : SFits w64 a = search rules in
-    fails_here (within 1000000000 a) _ _ (c.if-not-is_small.ensures ∙ ap (within 1000000000) (to_z-of_z w64 a f))
-    (sym (at_drop_more (all_within 1000000000) c.args.row.now c.loop-a.a-index (pos 0) (omega arith)) ∙ c.loop-a.invariant)
-
-pub loop-a-preserved : goal.loop-a-preserved
-loop-a-preserved c =
-    let a = get_or c.args.row.now c.loop-a.a-index (pos 0) in
-    let f : SFits w64 a = search rules in
-    passes_here (within 1000000000 a) _ _ (c.if-not-is_small.ensures ∙ ap (within 1000000000) (to_z-of_z w64 a f))
-    (sym (at_drop_more (all_within 1000000000) c.args.row.now c.loop-a.a-index (pos 0) (omega arith)) ∙ c.loop-a.invariant)
-
 pub returns : goal.returns
-returns c = sym (at_drop_all (all_within 1000000000) c.args.row.now c.loop-a.a-index (omega arith)) ∙ c.loop-a.invariant
+returns c =
+    let row = c.args.row.now in
+    all_from_yields_List (within 1000000000) _ _ _ c.all.ensures.ran (YieldsList-from_slice row (cc)) (λ x b q k. search (rules, tests))
+    ∙ same_from_clauses (list_all (within 1000000000)) (all_within 1000000000) (λ x b. within 1000000000 x && b) refl (λ _ _. refl) (λ _ _. refl) row

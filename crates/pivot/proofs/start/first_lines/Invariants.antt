@@ -6,7 +6,7 @@ use Rattle.pivot.proofs.start.first_lines.Given as goal
 
 abbrev pub invariant-loop-i : goal.invariant-loop-i
 invariant-loop-i l =
-    (length l.lines ≡ 12)
-    × (map (seen (length (box_of l.problem).vars + length (rows_of l.problem))) (take l.i l.lines) ++ start_lines (length (rows_of l.problem)) l.i (drop l.i (rows_of l.problem))
+    (length l.line-items ≡ length (rows_of l.problem))
+    × (map (seen (length (box_of l.problem).vars + length (rows_of l.problem))) (take l.i l.line-items) ++ start_lines (length (rows_of l.problem)) l.i (drop l.i (rows_of l.problem))
     ≡ start_lines (length (rows_of l.problem)) 0 (rows_of l.problem))
-    × LinesOk (length (box_of l.problem).vars + length (rows_of l.problem)) (take l.i l.lines)
+    × LinesOk (length (box_of l.problem).vars + length (rows_of l.problem)) (take l.i l.line-items)

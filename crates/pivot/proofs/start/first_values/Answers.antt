@@ -1,16 +1,12 @@
-use Rattle.std.proofs.Common.{List, get_or, set, ℤ, ap, ◌∙◌, arith, w64, SFits, to_z, of_z, rules}
-use Rattle.std.proofs.lemmas.Int.{to_z-of_z}
-use Rattle.problems.specs.Box.{nowhere}
-use Rattle.testers.proofs.Lowers.{lowers_next, lowers_end}
+use Rattle.std.proofs.Common.{List, ◌∷◌, ◌++◌, ◌-◌, map, length, replicate, ℤ, pos, refl, ap, ◌∙◌, rules, tests}
+use Rattle.std.proofs.lemmas.List.Recursion.{same_from_clauses}
+use Rattle.problems.specs.declared.quantity.Span.{Span}
+use Rattle.testers.specs.Halving.{lowers}
 use Rattle.pivot.proofs.start.first_values.Goals as goal
 
-pub loop-v-preserved : goal.loop-v-preserved
-loop-v-preserved c =
-    let ss = c.args.vars.now in
-    let v = c.loop-v.v in
-    let x = (get_or ss v nowhere).lower in
-    let f : SFits w64 x = search rules in
-    ap (λ (t : List ℤ). set t v (to_z w64 (of_z w64 x))) c.loop-v.invariant ∙ lowers_next 24 ss v (to_z w64 (of_z w64 x)) c.loop-v-test.true (omega (arith, c.requires)) (to_z-of_z w64 x f)
-
 pub returns : goal.returns
-returns c = c.loop-v.invariant ∙ lowers_end 24 c.args.vars.now c.loop-v.v (omega arith) (omega arith)
+returns c =
+    let ss = c.args.vars.now in
+    let low : Span → ℤ = λ s. s.lower in
+    c.table.ensures low (λ s x p. search (rules, tests))
+    ∙ ap (λ (x : List ℤ). x ++ replicate (24 - length ss) (pos 0)) (same_from_clauses (map low) lowers (λ s x. s.lower ∷ x) refl (λ _ _. refl) (λ _ _. refl) ss)

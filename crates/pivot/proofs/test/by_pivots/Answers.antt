@@ -1,4 +1,5 @@
-use Rattle.std.proofs.Common.{◌≡◌, ℕ, ◌+◌, ◌-◌, ◌≤◌, List, ◌++◌, map, length, take, replicate, pos, sym, ap, ◌∙◌, subst, arith, rules}
+use Rattle.std.proofs.Common.{◌≡◌, ℕ, ◌+◌, ◌-◌, ◌≤◌, List, ◌++◌, map, length, take, replicate, pos, sym, refl, ap, ◌∙◌, subst, arith, rules}
+use Rattle.std.proofs.lemmas.List.{length-take}
 use Rattle.problems.specs.declared.quantity.Span.{Span}
 use Rattle.problems.specs.declared.problem.Problem.{Problem}
 use Rattle.problems.specs.Whole.{all_within}
@@ -23,8 +24,25 @@ slice_bounds-lines-end c = let h : c.rows-m.result ≤ 12 = omega (arith, c.rows
 pub slice_bounds-values-end : goal.slice_bounds-values-end
 slice_bounds-values-end c = let h = few c.args.problem.now c.variables.result c.rows-m.result c.variables.ensures.value c.rows-m.ensures.value in search rules
 
-pub slice_bounds-conclude-end : goal.slice_bounds-conclude-end
-slice_bounds-conclude-end c = let h = few c.args.problem.now c.variables.result c.rows-m.result c.variables.ensures.value c.rows-m.ensures.value in search rules
+pub slice_bounds-board-end : goal.slice_bounds-board-end
+slice_bounds-board-end c = let h = few c.args.problem.now c.variables.result c.rows-m.result c.variables.ensures.value c.rows-m.ensures.value in search rules
+
+pub invariant_of-board : goal.invariant_of-board
+invariant_of-board c =
+    let p = c.args.problem.now in
+    let q = proper p in
+    let t = fronts p c.variables.result c.rows-m.result c.vars.result.now c.row_ends.result.now c.first_values-values.result c.all_ends-ends.result c.first_lines-lines.result
+    c.variables.ensures.value c.rows-m.ensures.value c.vars.ensures c.row_ends.ensures
+    (c.first_values-values.ensures ∙ ap (λ (x : List Span). lowers x ++ replicate (24 - length x) (pos 0)) c.vars-2.ensures)
+    c.all_ends-ends.ensures c.first_lines-lines.ensures.value c.first_lines-lines.ensures.ok in
+    record {
+      few = omega (arith, length-take (c.rows-m.result - 0) c.first_lines-lines.result, c.rows-m.ensures.value, q.few_rows);
+      short = subst (λ (i : ℕ). i ≤ 24) (sym t.long) (few p _ _ refl refl);
+      same = t.same;
+      small = ap (all_within 200000000) t.values_are ∙ values_small (box_of p).vars (length (rows_of p)) q.spans;
+      lines_ok = t.lines_ok;
+      ends_ok = subst EndsOk (sym t.ends_are) (all_in_reach (box_of p).vars (box_of p).rows q.spans q.row_spans);
+    }
 
 pub conclude-requires : goal.conclude-requires
 conclude-requires c =
@@ -36,11 +54,7 @@ conclude-requires c =
     c.all_ends-ends.ensures c.first_lines-lines.ensures.value c.first_lines-lines.ensures.ok in
     let L = take (c.rows-m.result - 0) c.first_lines-lines.result in
     record {
-      lines = t.lines_ok;
       solved = subst (λ (i : ℕ). Solved (map (seen i) L)) (sym t.long) (subst Solved (sym t.lines_are) (start_solved (length (box_of p).vars) (rows_of p) q.coefficients));
-      same = t.same;
-      values = ap (all_within 200000000) t.values_are ∙ values_small (box_of p).vars (length (rows_of p)) q.spans;
-      ends = subst EndsOk (sym t.ends_are) (all_in_reach (box_of p).vars (box_of p).rows q.spans q.row_spans);
       all = t.long;
     }
 
