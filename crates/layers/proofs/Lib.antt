@@ -1,2 +1,3 @@
 pub mod Missed
 pub mod Piles
+pub mod Commons

@@ -1,9 +1,9 @@
 -- Four places for a layer, filled from the bottom up, make a pile.
 use Rattle.std.proofs.Common.{◌≡◌, ℕ, zero, suc, ◌≤◌, Bool, cond, ltb, leb, Some, None, sym, refl, ap, ◌∙◌, arith}
-use Rattle.problems.proofs.Tests.{leb_is}
 use Rattle.testers.specs.Tester.{Meaning}
 use Rattle.layers.specs.Divisor.{divisor_layer}
 use Rattle.layers.specs.Pile.{piled}
+use Rattle.std.proofs.lemmas.Bool.{le-leb}
 
 -- one layer, if so asked
 abbrev lay : Bool → Meaning → Meaning
@@ -22,4 +22,4 @@ pub pile_is : (k : ℕ) (m m₁ m₂ m₃ m₄ : Meaning) → k ≤ 4 → m₁ �
     → m₃ ≡ cond (ltb 2 k) (divisor_layer m₂) m₂ → m₄ ≡ cond (ltb 3 k) (divisor_layer m₃) m₃ → Some m₄ ≡ cond (leb k 4) (Some (piled k m)) None
 pile_is k m m₁ m₂ m₃ m₄ h p q r s =
     ap Some (s ∙ ap (lay (ltb 3 k)) (r ∙ ap (lay (ltb 2 k)) (q ∙ ap (lay (ltb 1 k)) p)) ∙ four_places k m h)
-    ∙ ap (λ (b : Bool). cond b (Some (piled k m)) None) (sym (leb_is k 4 h))
+    ∙ ap (λ (b : Bool). cond b (Some (piled k m)) None) (sym (le-leb k 4 h))

@@ -1,5 +1,5 @@
 -- The divisor layer over any tester.
-use Rattle.std.specs.Prelude.{ℕ, suc, cond, List, [], ◌∷◌, ℤ, Some, None, Option, unsigned_abs}
+use Rattle.std.specs.Prelude.{ℕ, suc, cond, List, [], ◌∷◌, ℤ, Some, None, Option, slice_index_or, unsigned_abs}
 use Rattle.problems.specs.declared.quantity.Span.{Span}
 use Rattle.problems.specs.Box.{Box}
 use Rattle.testers.specs.Gcd.{gcd}
@@ -13,6 +13,12 @@ abbrev pub free_gcd : List ℤ → List Span → ℕ
 free_gcd [] ss = 0
 free_gcd (a ∷ av) [] = 0
 free_gcd (a ∷ av) (s ∷ ss) = let d = free_gcd av ss in cond (fixed s) d (gcd (unsigned_abs a) d)
+
+-- the leaf of row i, where its divisor misses it
+abbrev pub missed_leaf : List (List ℤ) → Box → ℕ → Option Leaf
+missed_leaf rows box i =
+    let g = free_gcd (slice_index_or rows i []) box.vars in
+    cond (row_misses rows box i g) (Some (divisor i g)) None
 
 -- the leaf of the first row that its divisor misses, of those from row i on
 abbrev pub missing : List (List ℤ) → Box → ℕ → List (List ℤ) → Option Leaf

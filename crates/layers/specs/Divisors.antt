@@ -1,12 +1,11 @@
 -- The divisor layer keeps the laws if the tester below does.
 use Rattle.std.specs.Prelude.{◌≡◌, ℕ, suc, ◌+◌, ◌%◌, ◌<◌, true, ◌&&◌, ◌⊎◌, List, [], ◌∷◌, length, get_or, ℤ, Some, None, Option, nat_le, slice_index_or, unsigned_abs, refl}
 use Rattle.std.proofs.Common.{sym, ◌∙◌, ap, subst, inl, inr, ⊎_elim, arith}
-use Rattle.std.proofs.lemmas.Bool.{false≢true}
+use Rattle.std.proofs.lemmas.Bool.{false≢true, and_from, and_parts, cond_both, eq-eqb, le-leb, or_left, or_right}
 use Rattle.std.proofs.Math.Nat.{mul-mod_right}
 use Rattle.problems.specs.declared.quantity.Span.{Span}
 use Rattle.problems.specs.Whole.{divides}
 use Rattle.problems.specs.Box.{Box, Proper, no_ends}
-use Rattle.problems.proofs.Tests.{by_cond, and_true, both_true, or_left, or_right, eqb_is, leb_is}
 use Rattle.problems.proofs.Propers.{row_from, row_proper_at}
 use Rattle.testers.specs.Gcd.{gcd, Divides}
 use Rattle.testers.specs.Leaf.{Leaf, fixed, divides_free, fixed_part, misses, row_misses, formed, lawful}
@@ -36,25 +35,25 @@ free_divides (a ∷ av) [] = tt
 free_divides (a ∷ av) (s ∷ ss) =
     let d = free_gcd av ss in
     let r = gcd_is_greatest (unsigned_abs a) d in
-    by_cond (λ g. ((fixed s ≡ true) ⊎ Divides g (unsigned_abs a)) × DividesAll g av ss) (fixed s) d (gcd (unsigned_abs a) d)
+    cond_both (fixed s) d (gcd (unsigned_abs a) d) (λ g. ((fixed s ≡ true) ⊎ Divides g (unsigned_abs a)) × DividesAll g av ss)
     (λ y. (inl y, free_divides av ss))
     (λ n. (inr r.first, down_all (gcd (unsigned_abs a) d) d av ss r.second (free_divides av ss)))
 
 divides_test : (g : ℕ) (a : ℤ) → Divides g (unsigned_abs a) → divides g a ≡ true
-divides_test g a p = eqb_is (unsigned_abs a % g) 0 (ap (λ n. n % g) p.1 ∙ mul-mod_right g p.0)
+divides_test g a p = eq-eqb (unsigned_abs a % g) 0 (ap (λ n. n % g) p.1 ∙ mul-mod_right g p.0)
 
 all_test : (g : ℕ) (av : List ℤ) (ss : List Span) → DividesAll g av ss → divides_free g av ss ≡ true
 all_test g [] ss h = refl
 all_test g (a ∷ av) [] h = refl
 all_test g (a ∷ av) (s ∷ ss) h =
-    both_true _ _ (⊎_elim (λ y. or_left (fixed s) _ y) (λ q. or_right (fixed s) _ (divides_test g a q)) h.0) (all_test g av ss h.1)
+    and_from _ _ (⊎_elim (λ y. or_left (fixed s) _ y) (λ q. or_right (fixed s) _ (divides_test g a q)) h.0) (all_test g av ss h.1)
 
 -- ---- the leaf is lawful
 
 at_least_two : (g : ℕ) (f : ℤ) (l u : Option ℤ) → misses g f l u ≡ true → nat_le 2 g ≡ true
 at_least_two g f None u h = absurd (false≢true h)
 at_least_two g f (Some l) None h = absurd (false≢true h)
-at_least_two g f (Some l) (Some u) h = (and_true (nat_le 2 g) _ h).0
+at_least_two g f (Some l) (Some u) h = (and_parts (nat_le 2 g) _ h).0
 
 leaf_lawful : (rows : List (List ℤ)) (box : Box) → Proper rows box → (i g : ℕ) → i < length rows → g ≡ free_gcd (slice_index_or rows i []) box.vars → row_misses rows box i g ≡ true
     → (formed rows box (divisor i g) && lawful rows box (divisor i g)) ≡ true
@@ -63,9 +62,9 @@ leaf_lawful rows box p i g h e y =
     let ends = get_or box.rows i no_ends in
     let small = free_small row box.vars (row_from (length box.vars) row (row_proper_at (length box.vars) rows i h p.coefficients)).1 in
     let free = all_test g row box.vars (subst (λ d. DividesAll d row box.vars) (sym e) (free_divides row box.vars)) in
-    both_true _ _
-    (both_true _ _ (both_true _ _ (leb_is _ _ h) (at_least_two g (fixed_part row box.vars) ends.lower ends.upper y)) (leb_is g 255 (omega arith)))
-    (both_true _ _ free y)
+    and_from _ _
+    (and_from _ _ (and_from _ _ (le-leb _ _ h) (at_least_two g (fixed_part row box.vars) ends.lower ends.upper y)) (le-leb g 255 (omega arith)))
+    (and_from _ _ free y)
 
 -- ---- the layer
 
@@ -82,7 +81,7 @@ missing_lawful rows box p below law i (r ∷ rs) f =
     let first = f 0 (omega arith) in
     let here : i < length rows = subst (λ n. n < length rows) z first.0 in
     let row : get_or rows i [] ≡ r = subst (λ n. slice_index_or rows n [] ≡ r) z first.1 in
-    by_cond (λ (o : Option Leaf). LawfulAnswer rows box (unless o below)) (row_misses rows box i g) (Some (divisor i g)) (missing rows box (suc i) rs)
+    cond_both (row_misses rows box i g) (Some (divisor i g)) (missing rows box (suc i) rs) (λ (o : Option Leaf). LawfulAnswer rows box (unless o below))
     (λ y. leaf_lawful rows box p i g here (ap (λ (av : List ℤ). free_gcd av box.vars) (sym row)) y)
     (λ _. missing_lawful rows box p below law (suc i) rs
     (λ j k. let y : i + suc j ≡ suc i + j = omega arith in subst (λ n. (n < length rows) × (slice_index_or rows n [] ≡ slice_index_or rs j [])) y (f (suc j) (omega arith))))

@@ -1,20 +1,21 @@
 //! The divisor layer: a row whose unfixed variables all have a multiple of g for their coefficient
 //! moves in steps of g, so with no multiple of g where it must arrive the box has no plan. No bound
 //! on the variables shows that, so the layer stands over a tester that goes by bounds.
-ghost use Rattle.std.specs.Prelude.{◌≡◌, ◌≤◌, true, length, pos, ◌*ℤ◌, if◌then◌else◌, unsigned_abs};
-ghost use Rattle.layers.specs.Divisor.{divisor_layer, free_gcd, missed_row};
-ghost use Rattle.problems.specs.Ranges.{ends_proper, span_proper, spans_proper};
+ghost use Rattle.std.specs.Prelude.{◌≡◌, ◌≤◌, true, pos, ◌*ℤ◌, if◌then◌else◌, unsigned_abs};
+ghost use Rattle.layers.specs.Divisor.{divisor_layer, free_gcd, missed_leaf, missed_row};
+ghost use Rattle.problems.specs.Ranges.{span_proper};
 ghost use Rattle.problems.specs.View.{box_of, rows_of};
-ghost use Rattle.problems.specs.Whole.{all_within};
 ghost use Rattle.testers.specs.Leaf.{fixed, fixed_part, misses, no_multiple};
 ghost use Rattle.testers.specs.Told.{leaf_found};
 ghost use Rattle.layers.specs.Divisors.{divisor_laws};
 
 use problems::problem::Problem;
-use problems::quantity::{RowEnds, Span};
+use problems::quantity::Span;
 use testers::answer::Answer;
 use testers::gcd::gcd;
+use testers::halving::is_fixed;
 use testers::leaf::Leaf;
+use testers::row_in_box::RowInBox;
 use testers::tester::Tester;
 
 // The least divisor that says anything: every whole number is a multiple of 1.
@@ -24,11 +25,7 @@ const LEAST: u64 = 2;
 fn free_size(a: i64, s: Span) -> u64
     ensures { result ≡ (if fixed s then 0 else unsigned_abs a) }
 {
-    if s.lower == s.upper {
-        0
-    } else {
-        a.unsigned_abs()
-    }
+    if is_fixed(s) { 0 } else { a.unsigned_abs() }
 }
 
 // What a fixed variable adds to the row; 0 for an unfixed one.
@@ -38,35 +35,30 @@ fn fixed_term(a: i64, s: Span) -> i64
     ensures value { result ≡ (if fixed s then a *ℤ s.lower else pos 0) }
     ensures small { unsigned_abs result ≤ 10000000 }
 {
-    if s.lower == s.upper { a * s.lower } else { 0 }
+    if is_fixed(s) { a * s.lower } else { 0 }
 }
 
 // The greatest common divisor of the unfixed variables' coefficients.
-fn free_gcd(coefs: &[i64], vars: &[Span]) -> u64
-    requires coefficients { all_within 100 coefs.now ≡ true }
-    requires alike { length coefs.now ≡ length vars.now }
-    ensures value { result ≡ free_gcd coefs.now vars.now }
+fn free_gcd(row: &RowInBox) -> u64
+    ensures value { result ≡ free_gcd row.now.coefs.now row.now.vars.now }
     ensures small { result ≤ 100 }
 {
     let mut g = 0;
-    for i in (0..coefs.len()).rev() {
-        g = gcd(free_size(coefs[i], vars[i]), g);
+    for (coef, span) in row.coefs.iter().zip(row.vars) {
+        g = gcd(free_size(*coef, *span), g);
     }
     g
 }
 
 // The fixed variables' part of the row.
-fn fixed_part(coefs: &[i64], vars: &[Span]) -> i64
-    requires coefficients { all_within 100 coefs.now ≡ true }
-    requires proper { spans_proper vars.now ≡ true }
-    requires alike { length coefs.now ≡ length vars.now }
-    requires few { length coefs.now ≤ 12 }
-    ensures value { result ≡ fixed_part coefs.now vars.now }
+fn fixed_part(row: &RowInBox) -> i64
+    ensures value { result ≡ fixed_part row.now.coefs.now row.now.vars.now }
     ensures small { unsigned_abs result ≤ 120000000 }
 {
+    // A sum of its own: one that takes the term as a closure would ask its callers for the term's bounds.
     let mut sum = 0;
-    for i in 0..coefs.len() {
-        sum += fixed_term(coefs[i], vars[i]);
+    for (a, s) in row.coefs.iter().zip(row.vars) {
+        sum += fixed_term(*a, *s);
     }
     sum
 }
@@ -83,18 +75,14 @@ fn no_multiple(g: u64, s: Span) -> bool
 }
 
 // Whether both ends are present and g, at least 2, has no multiple where the unfixed variables must arrive.
-fn misses_row(g: u64, coefs: &[i64], vars: &[Span], ends: RowEnds) -> bool
+fn misses_row(g: u64, row: &RowInBox) -> bool
     requires divisor { g ≤ 100 }
-    requires coefficients { all_within 100 coefs.now ≡ true }
-    requires proper { spans_proper vars.now ≡ true }
-    requires alike { length coefs.now ≡ length vars.now }
-    requires few { length coefs.now ≤ 12 }
-    requires ends { ends_proper ends ≡ true }
-    ensures { result ≡ misses g (fixed_part coefs.now vars.now) ends.lower ends.upper }
+    ensures { result ≡ misses g (fixed_part row.now.coefs.now row.now.vars.now) row.now.ends.lower row.now.ends.upper }
 {
-    match (ends.lower, ends.upper) {
+    // One pattern names both ends; a zip would name them .0 and .1.
+    match (row.ends.lower, row.ends.upper) {
         (Some(lower), Some(upper)) => {
-            let part = fixed_part(coefs, vars);
+            let part = fixed_part(row);
             let left = Span {
                 lower: lower - part,
                 upper: upper - part,
@@ -105,23 +93,23 @@ fn misses_row(g: u64, coefs: &[i64], vars: &[Span], ends: RowEnds) -> bool
     }
 }
 
+// The leaf of row i, where its divisor misses it.
+fn missed_leaf(problem: &Problem, i: usize) -> Option<Leaf>
+    ensures { leaf_found problem.now result ≡ missed_leaf (rows_of problem.now) (box_of problem.now) i }
+{
+    let row = RowInBox::of(problem, i)?;
+    let g = free_gcd(&row);
+    misses_row(g, &row).then_some(Leaf::Divisor {
+        row: i,
+        g: g as usize,
+    })
+}
+
 /// The leaf of the first row that the greatest common divisor of its unfixed variables' coefficients misses.
 pub fn missed_row(problem: &Problem) -> Option<Leaf>
     ensures { leaf_found problem.now result ≡ missed_row (rows_of problem.now) (box_of problem.now) }
 {
-    let vars = problem.vars();
-    let ends = problem.row_ends();
-    for i in 0..ends.len() {
-        let coefs = problem.coefs(i);
-        let g = free_gcd(coefs, vars);
-        if misses_row(g, coefs, vars, ends[i]) {
-            return Some(Leaf::Divisor {
-                row: i,
-                g: g as usize,
-            });
-        }
-    }
-    None
+    (0..problem.rows()).find_map(|i| missed_leaf(problem, i))
 }
 
 /// The tester that looks for a missed row, and else asks the tester below.
@@ -136,6 +124,7 @@ impl<T: Tester> Tester for Divisor<T> {
     ghost lawful = { λ t. divisor_laws (T.Tester.meaning t.below) (T.Tester.lawful t.below) };
 
     fn test(&mut self, problem: &Problem) -> Answer {
+        // The tester below may change, which a closure of `map_or_else` would hide from the contract.
         if let Some(leaf) = missed_row(problem) {
             Answer::Empty(leaf)
         } else {
@@ -147,6 +136,7 @@ impl<T: Tester> Tester for Divisor<T> {
 #[cfg(test)]
 mod tests {
     use super::*;
+    use problems::quantity::RowEnds;
 
     // The row and the divisor that miss, in a problem of this one row with both ends at the value.
     fn missed(vars: &[Span], coefs: &[i64], value: i64) -> Option<(usize, usize)> {

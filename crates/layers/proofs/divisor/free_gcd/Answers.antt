@@ -1,36 +1,36 @@
-use Rattle.std.proofs.Common.{◌≡◌, ◌+◌, ◌-◌, cond, length, get_or, drop, ℤ, pos, nat_abs, ap, ◌∙◌, arith}
-use Rattle.problems.specs.Box.{nowhere}
+use Rattle.std.proofs.Common.{◌≡◌, ◌+◌, [], ◌∷◌, ◌++◌, cond, length, length-append, ℤ, nat_abs, ap, ◌∙◌, arith, rules}
+use Rattle.std.proofs.lemmas.Slice.Zip.{zip_end}
 use Rattle.problems.proofs.Propers.{coefs_from}
 use Rattle.testers.specs.Gcd.{gcd}
 use Rattle.testers.specs.Leaf.{fixed}
+use Rattle.testers.proofs.Turns.{turn}
 use Rattle.testers.proofs.Products.{back}
-use Rattle.testers.proofs.Extremes.{coef_at}
 use Rattle.layers.specs.Divisor.{free_gcd}
-use Rattle.layers.specs.Frees.{free_next, free_end, free_small}
+use Rattle.layers.specs.Frees.{gcd_none, free_small}
+use Rattle.layers.proofs.Commons.{free_more, free_done}
 use Rattle.layers.proofs.divisor.free_gcd.Goals as goal
 
-pub loop-i-init : goal.loop-i-init
-loop-i-init c = free_end c.args.coefs.now c.args.vars.now (length c.args.coefs.now) (omega arith)
+pub loop-coef-init : goal.loop-coef-init
+loop-coef-init c = gcd_none (free_gcd c.args.row.now.coefs.now c.args.row.now.vars.now)
 
-pub loop-i-preserved : goal.loop-i-preserved
-loop-i-preserved c =
-    let r = c.args.coefs.now in
-    let ss = c.args.vars.now in
-    let i = c.loop-i.i - 1 in
-    let a = get_or r i (pos 0) in
-    let s = get_or ss i nowhere in
-    let size = cond (fixed s) 0 (nat_abs a) in
-    let e = c.free_size.ensures ∙ ap (λ (z : ℤ). cond (fixed s) 0 (nat_abs z)) (back a (omega (arith, coef_at r i c.requires.coefficients))) in
-    let up : c.loop-i.i ≡ i + 1 = omega (arith, c.loop-i-test.true) in
-    c.gcd-g.ensures.value
-    ∙ ap (λ n. gcd n c.loop-i.g) e
-    ∙ ap (gcd size) (c.loop-i.invariant ∙ ap (λ k. free_gcd (drop k r) (drop k ss)) up)
-    ∙ free_next r ss i (omega arith) (omega arith)
+pub loop-coef-preserved : goal.loop-coef-preserved
+loop-coef-preserved c =
+    let r = c.args.row.now.coefs.now in
+    let ss = c.args.row.now.vars.now in
+    let i = length c.loop-coef.yielded in
+    let a = c.in-Some.coef.now in
+    let s = c.in-Some.span.now in
+    let t = turn c.args.row.now c.loop-coef.yielded c.into_iter-coef-iterator.result c.loop-coef.coef-iterator c.next.new.self c.next.result (c.in-Some.coef, c.in-Some.span) (search rules) (search rules) c.loop-coef.yielded_by (search rules) c.next.ensures.steps in
+    let n : length (c.loop-coef.yielded ++ (c.in-Some.coef, c.in-Some.span) ∷ []) ≡ i + 1 = length-append c.loop-coef.yielded ((c.in-Some.coef, c.in-Some.span) ∷ []) in
+    let b = back a (omega (arith, t.small)) in
+    let size = c.free_size.ensures ∙ ap (λ (z : ℤ). cond (fixed s) 0 (nat_abs z)) b in
+    rw (n, c.gcd-g.ensures.value ∙ ap (λ k. gcd k c.loop-coef.g) size) (free_more r ss i a s c.loop-coef.g t.in_coefs t.in_vars t.coef t.span c.loop-coef.invariant)
 
 pub returns : goal.returns
 returns c =
-    let r = c.args.coefs.now in
-    let ss = c.args.vars.now in
-    let none : c.loop-i.i ≡ 0 = omega (arith, c.loop-i-test.false) in
-    let e = c.loop-i.invariant ∙ ap (λ k. free_gcd (drop k r) (drop k ss)) none in
-    record { value = e; small = rw e (free_small r ss (coefs_from r c.requires.coefficients)) }
+    let r = c.args.row.now.coefs.now in
+    let ss = c.args.row.now.vars.now in
+    let i = length c.loop-coef.yielded in
+    let n = zip_end r ss c.loop-coef.yielded c.into_iter-coef-iterator.result c.loop-coef.coef-iterator c.next.new.self c.next.result (search rules) (search rules) c.loop-coef.yielded_by (search rules) c.next.ensures.steps in
+    let e = free_done r ss i c.loop-coef.g (omega (arith, c.args.row.now.alike)) c.loop-coef.invariant in
+    record { value = e; small = rw e (free_small r ss (coefs_from r c.args.row.now.coefficients)) }
