@@ -1,11 +1,10 @@
 -- The reply is the one asked for, it is truthful, and the buffers are left as said.
 use Rattle.std.proofs.Common.{◌≡◌, ℕ, ◌+◌, ◌-◌, ◌*◌, ◌<◌, ◌≤◌, false, leb, List, ◌++◌, length, take, drop, replicate, ℤ, pos, nat_abs, Some, None, Ok, Err, Option, sym, refl, ap, ◌∙◌, ⊎_elim, append_assoc, arith, take-append-drop, drop_of_length-le}
 use Rattle.std.proofs.lemmas.List.{length-take-le, replicate-append-replicate, take_all}
-use Rattle.std.proofs.lemmas.Bool.{cases_lt}
+use Rattle.std.proofs.lemmas.Bool.{cases_lt, leb-true}
 use Rattle.problems.specs.declared.problem.Problem.{Problem}
 use Rattle.problems.specs.declared.refusal.Refused.{Refused}
 use Rattle.problems.specs.declared.refusal.Refusal.TheVariants.{Budget, Buffer}
-use Rattle.problems.proofs.Tests.{by_bool, leb_true}
 use Rattle.problems.specs.Box.{Box, Proper}
 use Rattle.testers.specs.Tester.{Meaning, KeepsLaws}
 use Rattle.problems.specs.View.{box_of, rows_of}
@@ -17,6 +16,7 @@ use Rattle.search.specs.Promise.{Truthful}
 use Rattle.search.proofs.Searches.{none_right, plan_right, few_boxes, boxes_in_budget, spent_right}
 use Rattle.search.proofs.Records.{none_record}
 use Rattle.search.proofs.Repeats.{found_again}
+use Rattle.problems.proofs.Tests.{by_bool}
 
 pub truthful : (tester : Meaning) → KeepsLaws tester → (rows : List (List ℤ)) (box : Box) → Proper rows box → (budget : ℕ) → Truthful tester rows box budget (search_box tester rows box budget)
 truthful tester laws rows box p budget =
@@ -58,7 +58,7 @@ pub room_for : (budget : ℤ) (bytes places boxes : ℕ) → Ok boxes ≡ grante
 room_for budget bytes places boxes h =
     let g = granted_by (refusal budget bytes places) (nat_abs budget) boxes h in
     let e = g.1 in
-    by_bool (leb (100 * nat_abs budget) bytes) (λ y. let l = leb_true _ _ y in omega arith) (λ n. absurd (no_room n g.0))
+    by_bool (leb (100 * nat_abs budget) bytes) (λ y. let l = leb-true _ _ y in omega arith) (λ n. absurd (no_room n g.0))
   where
     no_room : leb (100 * nat_abs budget) bytes ≡ false → refusal budget bytes places ≡ None → ⊥
     no_room n r =

@@ -1,10 +1,9 @@
 -- An entry's bytes, written piece by piece.
-use Rattle.std.proofs.Common.{◌≡◌, ℕ, zero, suc, ◌+◌, ◌-◌, ◌*◌, ◌/◌, ◌%◌, ◌<◌, ◌≤◌, true, false, ltb, leb, List, [], ◌∷◌, ◌++◌, length, get_or, take, drop, ℤ, pos, nat_abs, sym, refl, ap, ◌∙◌, add-one, arith, length-append, w64, SFits, to_z, of_z}
+use Rattle.std.proofs.Common.{◌≡◌, ℕ, zero, suc, ◌+◌, ◌-◌, ◌*◌, ◌<◌, ◌≤◌, true, false, List, [], ◌∷◌, ◌++◌, length, get_or, take, drop, ℤ, pos, nat_abs, sym, refl, ap, ◌∙◌, arith, length-append, w64, SFits, to_z, of_z}
 use mathlib.Core.Bool.{false≢true}
 use lib.Signed.{le_z, lt_z}
 use borrow.Author.Differences.{ints}
-use Rattle.std.proofs.lemmas.Bool.Decides.{nat_tests}
-use Rattle.std.proofs.lemmas.List.{drop_more, at_drop_all, drop-take, take-take, take-append-drop, length-take, length-take-le}
+use Rattle.std.proofs.lemmas.List.{drop_more, at_drop_all, drop-take, take-take, take-append-drop, length-take-le}
 use Rattle.std.proofs.lemmas.Int.{to_z-of_z}
 use Rattle.problems.specs.declared.quantity.Span.{Span}
 use Rattle.problems.specs.declared.quantity.RowEnds.{RowEnds}
@@ -14,28 +13,24 @@ use Rattle.testers.specs.declared.leaf.Leaf.TheVariants.{Sum}
 use Rattle.problems.specs.Whole.{is_zero, within, all_within}
 use Rattle.problems.specs.Box.{Box, Proper, splits}
 use Rattle.testers.specs.Leaf.{formed}
-use Rattle.testers.specs.Leaf.Leaf.{sum, divisor}
+use Rattle.testers.specs.Leaf.Leaf.{sum}
 use Rattle.problems.specs.View.{box_of}
 use Rattle.testers.specs.Told.{leaf_in}
-use Rattle.problems.proofs.Tests.{and_true, both_true, leb_true, le_z_true, lt_z_true}
 use Rattle.problems.proofs.Propers.{Spans, spans_from}
-use Rattle.search.specs.Bytes.{four_bytes, three_bytes, map_of, multipliers, leaf_bytes, split_bytes}
+use Rattle.search.specs.Bytes.{four_bytes, three_bytes, map_of, multipliers, leaf_bytes}
 use Rattle.search.specs.Written.{wrote}
 use Rattle.search.proofs.Written.{wrote_next, wrote_none}
+use Rattle.std.proofs.lemmas.Bool.{and_from, and_parts, leb-true}
+use Rattle.problems.proofs.Tests.{le_z_true, lt_z_true}
 
 -- a number to its bits and back
 pub back : (z : ℤ) → nat_abs z ≤ 1000000000 → to_z w64 (of_z w64 z) ≡ z
 back z h = let f : SFits w64 z = omega (arith, ints) in to_z-of_z w64 z f
 
-pub split_wrote : (p v : ℕ) (k : ℤ) (xs ys zs bs : List ℕ) → nat_abs k ≤ 1000000000 → p ≤ length xs
-    → ys ≡ wrote p (1 ∷ (v + 1) ∷ []) xs → bs ≡ four_bytes (to_z w64 (of_z w64 k)) → zs ≡ wrote (p + 2) bs ys → zs ≡ wrote p (split_bytes v k) xs
-split_wrote p v k xs ys zs bs small room first number second =
-    second ∙ rw (number, back k small, first, add-one v) (wrote_next p (p + 2) (1 ∷ suc v ∷ []) (four_bytes k) xs refl room)
-
 split_within : (ss : List Span) (v : ℕ) (k : ℤ) → Spans ss → splits v k ss ≡ true → (v < length ss) × (nat_abs k ≤ 1000000000)
 split_within [] v k p h = absurd (false≢true h)
 split_within (s ∷ ss) zero k p h =
-    let w = and_true (le_z s.lower k) (lt_z k s.upper) h in
+    let w = and_parts (le_z s.lower k) (lt_z k s.upper) h in
     let l = le_z_true s.lower k w.0 in
     let u = lt_z_true k s.upper w.1 in
     (omega arith, omega (arith, ints))
@@ -53,8 +48,8 @@ split_small rows box v k p h =
 
 pub within_at : (n : ℕ) (ms : List ℤ) → all_within n ms ≡ true → (i : ℕ) → nat_abs (get_or ms i (pos 0)) ≤ n
 within_at n [] s i = omega arith
-within_at n (y ∷ ms) s zero = leb_true _ _ (and_true _ _ s).0
-within_at n (y ∷ ms) s (suc i) = within_at n ms (and_true _ _ s).1 i
+within_at n (y ∷ ms) s zero = leb-true _ _ (and_parts _ _ s).0
+within_at n (y ∷ ms) s (suc i) = within_at n ms (and_parts _ _ s).1 i
 
 -- what is left of the multipliers, written at p into xs, gives all of them, written at q into start
 abbrev pub Left : List ℤ → ℕ → ℕ → ℕ → List ℕ → List ℕ → Type 0
@@ -97,12 +92,6 @@ all_on ms i p q xs start h left =
 
 -- ---- leaves
 
-pub sum_wrote : (p n : ℕ) (ms : List ℤ) (bs xs ys zs : List ℕ) → n ≡ map_of ms → bs ≡ (n / 16777216 % 256) ∷ three_bytes n → p ≤ length xs
-    → ys ≡ wrote p (2 ∷ get_or bs 1 0 ∷ get_or bs 2 0 ∷ get_or bs 3 0 ∷ []) xs → zs ≡ wrote (p + 4) (multipliers ms) ys
-    → zs ≡ wrote p (2 ∷ three_bytes (map_of ms) ++ multipliers ms) xs
-sum_wrote p n ms bs xs ys zs map parts room first second =
-    second ∙ rw (first, parts, map) (wrote_next p (p + 4) (2 ∷ three_bytes (map_of ms)) (multipliers ms) xs refl room)
-
 -- the multipliers of the variables and those of the rows stand in one list
 pub one_list : (n m : ℕ) (ms : List ℤ) → take n ms ++ take m (drop n ms) ≡ take (n + m) ms
 one_list n m ms =
@@ -111,22 +100,13 @@ one_list n m ms =
 
 within_both : (b : ℕ) (ys zs : List ℤ) → all_within b ys ≡ true → all_within b zs ≡ true → all_within b (ys ++ zs) ≡ true
 within_both b [] zs h k = k
-within_both b (y ∷ ys) zs h k = let w = and_true (within b y) (all_within b ys) h in both_true _ _ w.0 (within_both b ys zs w.1 k)
+within_both b (y ∷ ys) zs h k = let w = and_parts (within b y) (all_within b ys) h in and_from _ _ w.0 (within_both b ys zs w.1 k)
 
 pub sum_small : (rows : List (List ℤ)) (box : Box) (ys zs : List ℤ) → formed rows box (sum ys zs) ≡ true → all_within 1000000000 (ys ++ zs) ≡ true
 sum_small rows box ys zs h =
-    let a = and_true _ (all_within 1000000000 zs) h in
-    let b = and_true _ (all_within 1000000000 ys) a.0 in
+    let a = and_parts _ (all_within 1000000000 zs) h in
+    let b = and_parts _ (all_within 1000000000 ys) a.0 in
     within_both 1000000000 ys zs b.1 a.1
-
-ltb-true : (a b : ℕ) → ltb a b ≡ true → a < b
-ltb-true a b e = grind (arith, nat_tests)
-
-pub divisor_small : (rows : List (List ℤ)) (box : Box) (i g : ℕ) → formed rows box (divisor i g) ≡ true → (i < length rows) × (g ≤ 255)
-divisor_small rows box i g h =
-    let a = and_true _ (leb g 255) h in
-    let b = and_true (ltb i (length rows)) (leb 2 g) a.0 in
-    (ltb-true _ _ b.0, leb_true _ _ a.1)
 
 -- how many quantities a problem has
 pub quantities : (p : Problem) (vs : List Span) (es : List RowEnds) → vs ≡ (box_of p).vars → es ≡ (box_of p).rows
@@ -140,9 +120,6 @@ quantities p vs es e f =
 -- the part of a sum leaf's numbers that the problem has quantities for
 pub part_is : (n m q : ℕ) (ms : List ℤ) → q ≡ n + m → take n ms ++ take m (drop n ms) ≡ take (q - 0) ms
 part_is n m q ms e = one_list n m ms ∙ ap (λ k. take k ms) (omega arith)
-
-pub part_few : (n m q : ℕ) (ms : List ℤ) → n ≤ 12 → m ≤ 12 → q ≡ n + m → length (take (q - 0) ms) ≤ 24
-part_few n m q ms h k e = rw length-take (omega arith)
 
 pub part_small : (rows : List (List ℤ)) (box : Box) (n m q : ℕ) (l : LeafType) (ms : List ℤ) → l ≡ Sum ms → q ≡ n + m
     → formed rows box (leaf_in n m l) ≡ true → all_within 1000000000 (take (q - 0) ms) ≡ true

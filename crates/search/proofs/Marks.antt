@@ -1,7 +1,9 @@
--- Marks written place by place: those written so far, and those that stand.
-use Rattle.std.proofs.Common.{◌≡◌, ℕ, zero, suc, ◌+◌, ◌<◌, ◌≤◌, Bool, true, false, not, ◌&&◌, ◌||◌, eqb, ◌≢◌, List, length, get_or, set, replicate, ℤ, pos, sym, refl, ap, ◌∙◌, ⊎_elim, arith, length-set, below_more}
-use Rattle.std.proofs.lemmas.List.{get_or-set_same, get_or-set_other, get_or_past}
-use Rattle.std.proofs.lemmas.Bool.{cases_lt, cases_eq, eq-eqb, ne_eqb}
+-- Marks made place by place, and those that stand past the last place.
+use Rattle.std.proofs.Common.{◌≡◌, ℕ, zero, suc, ◌+◌, ◌<◌, ◌≤◌, Bool, true, false, not, ◌&&◌, List, length, get_or, ℤ, pos, sym, refl, ap, ◌∙◌, subst, ⊎_elim, arith}
+use denote.Param.Members.{Mut, Called}
+use Rattle.std.specs.Array.{IsFromFnResult, IsFromFnResultFrom}
+use Rattle.std.proofs.lemmas.List.{get_or_past}
+use Rattle.std.proofs.lemmas.Bool.{cases_lt}
 use Rattle.problems.specs.declared.quantity.Side.{Side}
 use Rattle.problems.specs.declared.quantity.Side.TheVariants.{Lower, Upper}
 use Rattle.problems.specs.declared.quantity.Span.{Span}
@@ -13,41 +15,29 @@ use Rattle.search.specs.declared.uses.Sides.{Sides}
 use Rattle.search.specs.Search.{still_standing}
 use Rattle.search.specs.Shown.{side_in, neither, marked}
 
--- twelve marks: below i they are f, from i on they are g
-pub record Upto (ss : List Sides) (i : ℕ) (f g : Side → ℕ → Bool) : Type 0 where
-  pub long : length ss ≡ 12
-  pub new : (side : Side) (k : ℕ) → k < i → marked ss side k ≡ f side k
-  pub old : (side : Side) (k : ℕ) → i ≤ k → marked ss side k ≡ g side k
+-- no place past the last one is marked
+pub unmarked_past : (ss : List Sides) (side : Side) (k : ℕ) → length ss ≤ k → marked ss side k ≡ false
+unmarked_past ss Lower k h = ap (side_in Lower) (get_or_past ss k neither h)
+unmarked_past ss Upper k h = ap (side_in Upper) (get_or_past ss k neither h)
 
-pub none_written : (ss : List Sides) (f g : Side → ℕ → Bool) → length ss ≡ 12 → ((side : Side) (k : ℕ) → marked ss side k ≡ g side k) → Upto ss 0 f g
-none_written ss f g l h = record { long = l; new = λ side k n. absurd (omega arith); old = λ side k n. h side k }
+module _ {F : Type 0} (g : Mut F (ℕ × Unit {0}) Sides) (c : F) (f : Side → ℕ → Bool)
+    (tells : (i : ℕ) (s : Sides) (d : F) → i < 12 → Called g c (i, tt) s d → (d ≡ c) × ((side : Side) → side_in side s ≡ f side i)) where
+  each_told : (ss : List Sides) (i n : ℕ) → i + n ≤ 12 → IsFromFnResultFrom g c ss i n → (side : Side) (k : ℕ) → i ≤ k → k < i + n → marked ss side k ≡ f side k
+  each_told ss i zero h told side k a b = absurd (omega arith)
+  each_told ss i (suc n) h told side k a b =
+      let one = tells i told.1 told.0 (omega arith) told.3 in
+      ⊎_elim
+      (λ (l : i < k). each_told ss (i + 1) n (omega arith) (subst (λ (d : F). IsFromFnResultFrom g d ss (i + 1) n) one.0 told.4) side k (omega arith) (omega arith))
+      (λ (l : k ≤ i). let e : k ≡ i = omega arith in ap (marked ss side) e ∙ ap (side_in side) (told.2.1 neither) ∙ one.1 side ∙ ap (f side) (sym e))
+      (cases_lt i k)
 
-pub one_written : (ss : List Sides) (i : ℕ) (s : Sides) (f g : Side → ℕ → Bool) → Upto ss i f g → i < 12 → ((side : Side) → side_in side s ≡ f side i) → Upto (set ss i s) (i + 1) f g
-one_written ss i s f g u h e =
-    let far : (side : Side) (k : ℕ) → k ≢ i → marked (set ss i s) side k ≡ marked ss side k = λ side k ne. ap (side_in side) (get_or-set_other ss i k s neither ne) in
-    let l : i < length ss = omega (arith, u.long) in
-    record {
-      long = length-set ss i s ∙ u.long;
-      new = λ side. below_more (λ k. marked (set ss i s) side k ≡ f side k) i (λ k n. far side k (omega arith) ∙ u.new side k n) (ap (side_in side) (get_or-set_same ss i s neither l) ∙ e side);
-      old = λ side k n. far side k (omega arith) ∙ u.old side k (omega arith);
-    }
-
--- where f and g agree past the last one written, all marks are f
-pub all_written : (ss : List Sides) (i : ℕ) (f g : Side → ℕ → Bool) → Upto ss i f g → ((side : Side) (k : ℕ) → i ≤ k → g side k ≡ f side k) → (side : Side) (k : ℕ) → marked ss side k ≡ f side k
-all_written ss i f g u e side k = ⊎_elim (λ n. u.new side k n) (λ n. u.old side k n ∙ e side k n) (cases_lt k i)
-
-abbrev both_sides : Sides
-both_sides = record { lower = true; upper = true }
-
-abbrev pub unmarked : Side → ℕ → Bool
-unmarked side k = false
-
-pub neither_marked : (n : ℕ) (side : Side) (k : ℕ) → marked (replicate n neither) side k ≡ false
-neither_marked zero Lower k = refl
-neither_marked zero Upper k = refl
-neither_marked (suc n) Lower zero = refl
-neither_marked (suc n) Upper zero = refl
-neither_marked (suc n) side (suc k) = neither_marked n side k
+  -- twelve sides made by calls at their places, where nothing is marked past the last place
+  pub all_told : (ss : List Sides) → IsFromFnResult g c ss 12 → ((side : Side) (k : ℕ) → 12 ≤ k → false ≡ f side k) → (side : Side) (k : ℕ) → marked ss side k ≡ f side k
+  all_told ss made past side k =
+      ⊎_elim
+      (λ (l : k < 12). each_told ss 0 12 (omega arith) made.each side k (omega arith) (omega arith))
+      (λ (l : 12 ≤ k). unmarked_past ss side k (omega (arith, made.long)) ∙ past side k l)
+      (cases_lt k 12)
 
 -- ---- past the last quantity
 
@@ -71,24 +61,3 @@ end_same s t side p q = sym (eq_z_is (span_end side t) (span_end side s) (ap (sp
 
 pub standing_past : (root ss : List Span) (side : Side) (k : ℕ) (a : Bool) → length root ≤ k → length ss ≤ k → a ≡ (a && still_standing root ss side k)
 standing_past root ss side k a h l = and_right a (still_standing root ss side k) (end_same (get_or root k nowhere) (get_or ss k nowhere) side (sym (get_or_past root k nowhere h)) (sym (get_or_past ss k nowhere l)))
-
-or_right_false : (a b : Bool) → false ≡ b → a ≡ (a || b)
-or_right_false true b e = refl
-or_right_false false b e = e
-
-pub marked_past : (ss : List Sides) (side : Side) (k : ℕ) (a : Bool) → length ss ≤ k → a ≡ (a || marked ss side k)
-marked_past ss Lower k a h = or_right_false a (marked ss Lower k) (ap (side_in Lower) (sym (get_or_past ss k neither h)))
-marked_past ss Upper k a h = or_right_false a (marked ss Upper k) (ap (side_in Upper) (sym (get_or_past ss k neither h)))
-
--- ---- one row
-
-both_in : (side : Side) → side_in side both_sides ≡ true
-both_in Lower = refl
-both_in Upper = refl
-
-pub row_marked : (i : ℕ) (side : Side) (k : ℕ) → i < 12 → marked (set (replicate 12 neither) i both_sides) side k ≡ eqb k i
-row_marked i side k h =
-    ⊎_elim
-    (λ (e : k ≡ i). ap (marked (set (replicate 12 neither) i both_sides) side) e ∙ ap (side_in side) (get_or-set_same (replicate 12 neither) i both_sides neither h) ∙ both_in side ∙ sym (eq-eqb k i e))
-    (λ (ne : k ≢ i). ap (side_in side) (get_or-set_other (replicate 12 neither) i k both_sides neither ne) ∙ neither_marked 12 side k ∙ sym (ne_eqb k i ne))
-    (cases_eq k i)

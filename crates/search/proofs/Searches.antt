@@ -2,7 +2,6 @@
 use Rattle.std.proofs.Common.{◌≡◌, ℕ, ◌+◌, ◌-◌, ◌*◌, ◌<◌, ◌≤◌, true, false, List, [], ◌∷◌, get_or, ℤ, pos, ◌+ℤ◌, ◌≤ℤ◌, sym, refl, ap, ◌∙◌, subst, ⊎_elim, true≢false, arith}
 use borrow.Author.Differences.{ints}
 use Rattle.std.proofs.lemmas.Int.{by_lt_z}
-use Rattle.problems.proofs.Tests.{by_bool, or_left, or_right, both_true, eq_z_true, eq_z_same}
 use Rattle.testers.specs.Leaves.{Meets, leaf_refutes}
 use Rattle.testers.proofs.Plans.{plan_meets}
 use Rattle.problems.proofs.Boxes.{low_lower, low_upper, high_lower, high_upper, low_inside, high_inside, points_split, some_points, low_proper, high_proper}
@@ -14,6 +13,8 @@ use Rattle.testers.specs.Leaf.{Leaf, Uses, uses}
 use Rattle.testers.specs.Tester.{Meaning, KeepsLaws}
 use Rattle.search.specs.Search.{Search, Open, Found, still_standing, also_used, nothing_yet, search_box}
 use Rattle.search.specs.Search.Verdict.{plan, none, spent}
+use Rattle.std.proofs.lemmas.Bool.{and_from, or_left, or_right}
+use Rattle.problems.proofs.Tests.{by_bool, eq_z_true, eq_z_same}
 
 -- ---- verdicts are told apart
 
@@ -75,10 +76,10 @@ meets_leaf rows root box l u w x sub m c =
       in_vars =
           record {
             from = λ i h. by_bool (still_standing root.vars box.vars Lower i)
-                (λ y. rw (eq_z_true (get_or box.vars i nowhere).lower (get_or root.vars i nowhere).lower y) (m.in_vars.from i (sub.vars Lower i (or_right (u.vars Lower i) _ (both_true _ _ h y)))))
+                (λ y. rw (eq_z_true (get_or box.vars i nowhere).lower (get_or root.vars i nowhere).lower y) (m.in_vars.from i (sub.vars Lower i (or_right (u.vars Lower i) _ (and_from _ _ h y)))))
                 (c.from i);
             to = λ i h. by_bool (still_standing root.vars box.vars Upper i)
-                (λ y. rw (eq_z_true (get_or box.vars i nowhere).upper (get_or root.vars i nowhere).upper y) (m.in_vars.to i (sub.vars Upper i (or_right (u.vars Upper i) _ (both_true _ _ h y)))))
+                (λ y. rw (eq_z_true (get_or box.vars i nowhere).upper (get_or root.vars i nowhere).upper y) (m.in_vars.to i (sub.vars Upper i (or_right (u.vars Upper i) _ (and_from _ _ h y)))))
                 (c.to i);
           };
       in_rows =

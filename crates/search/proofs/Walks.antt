@@ -3,7 +3,7 @@ use Rattle.std.proofs.Common.{◌≡◌, ℕ, suc, ◌+◌, ◌-◌, ◌<◌, �
 use Rattle.std.specs.List.{AllByRecursion}
 use Rattle.std.proofs.lemmas.List.{length-map, length-take-le, length-reverse, reverse-append, take_more, take_more_set, drop-set-lt, drop-drop, take-set}
 use Rattle.std.proofs.ByRecursion.{All-push}
-use Rattle.std.proofs.lemmas.Bool.{cases_lt}
+use Rattle.std.proofs.lemmas.Bool.{cases_lt, eq-eqb}
 use Rattle.std.specs.Option.{option_map}
 use Rattle.problems.specs.declared.quantity.Span.{Span}
 use Rattle.problems.specs.declared.quantity.RowEnds.{RowEnds}
@@ -12,11 +12,9 @@ use Rattle.problems.specs.declared.problem.Problem.{Problem}
 use Rattle.problems.specs.Box.{Box, splits, high, lower_half, with_vars}
 use Rattle.testers.specs.Leaf.{Leaf}
 use Rattle.problems.specs.View.{vars_in, box_of, rows_of}
-use Rattle.problems.proofs.Tests.{eqb_is}
 use Rattle.problems.proofs.Boxes.{length_low, length_high}
 use Rattle.problems.proofs.Views.{vars_long}
 use Rattle.search.specs.declared.open_split.OpenSplit.{OpenSplit}
-use Rattle.search.specs.declared.walk.Walk.{Walk}
 use Rattle.search.specs.Bytes.{split_bytes, leaf_bytes}
 use Rattle.search.specs.declared.uses.Uses.{Uses as UsesType}
 use Rattle.search.specs.Search.{Search, Open, Found, with_split, with_leaf, also_used, next, ends_with}
@@ -24,7 +22,7 @@ use Rattle.search.specs.Search.Verdict.{none}
 use Rattle.lent.specs.Stacks.{Pushed}
 use Rattle.search.specs.Shown.{uses_of}
 use Rattle.search.specs.Written.{wrote}
-use Rattle.search.specs.Walk.{open_of, opens_of, state_of, Splits, Ready, blank_split, Blanked, Moved}
+use Rattle.search.specs.Walk.{Stand, open_of, opens_of, state_of, Splits, Ready, blank_split, Blanked, Moved}
 use Rattle.search.proofs.Written.{wrote_take, wrote_drop}
 
 -- ---- the stack's slots
@@ -96,7 +94,7 @@ top_holds P xs ys n m b o h l e p q a =
 open_same : (a b : Box) → a.rows ≡ b.rows → (os : List OpenSplit) → map (open_of a) os ≡ map (open_of b) os
 open_same a b e [] = refl
 open_same a b e (o ∷ os) =
-    ap (λ (es : List RowEnds). record { variable = o.variable; at = o.at; box = record { vars = vars_in o.vars; rows = es } } ∷ map (open_of a) os) e
+    ap (λ (es : List RowEnds). record { variable = o.cut.0; at = o.cut.1; box = record { vars = vars_in o.vars; rows = es } } ∷ map (open_of a) os) e
     ∙ ap (λ (ps : List Open). open_of b o ∷ ps) (open_same a b e os)
 
 -- as many variables as the list has
@@ -119,7 +117,7 @@ half_there res cut part p c e =
 pub half_put : (at after : Problem) (half : Vars) (r : Bool) (part : List Span) → vars_in half ≡ part → length part ≡ length (box_of at).vars
     → r ≡ eqb (length (vars_in half)) (length (box_of at).vars) → box_of after ≡ cond r (with_vars (vars_in half) (box_of at)) (box_of at) → box_of after ≡ with_vars part (box_of at)
 half_put at after half r part h l v e =
-    let t : r ≡ true = v ∙ eqb_is _ _ (ap length h ∙ l) in
+    let t : r ≡ true = v ∙ eq-eqb _ _ (ap length h ∙ l) in
     e ∙ ap (λ (b : Bool). cond b (with_vars (vars_in half) (box_of at)) (box_of at)) t ∙ ap (λ (ss : List Span). with_vars ss (box_of at)) h
 
 -- an entry for which there was room
@@ -129,11 +127,11 @@ put_on xs ys n m e (Err y) h p = absurd (omega (arith, p.0))
 
 -- ---- a split
 
-module _ (w : Walk) (bs bs' : List ℕ) (xs ys : List OpenSplit) (n m : ℕ) (v : ℕ) (k : ℤ) (at : Problem) (e : OpenSplit) (d b : ℕ)
+module _ (w : Stand) (bs bs' : List ℕ) (xs ys : List OpenSplit) (n m : ℕ) (v : ℕ) (k : ℤ) (at : Problem) (e : OpenSplit) (d b : ℕ)
     (room : w.bytes + 100 ≤ length bs) (wrote-split : bs' ≡ wrote w.bytes (split_bytes v k) bs) (b-is : b ≡ w.bytes + 6)
-    (place : n < length xs) (put : ys ≡ set xs n e) (m-is : m ≡ n + 1) (e-is : e ≡ record { variable = v; at = k; vars = w.at.ends.vars })
+    (place : n < length xs) (put : ys ≡ set xs n e) (m-is : m ≡ n + 1) (e-is : e ≡ record { cut = (v, k); vars = w.at.ends.vars })
     (half : box_of at ≡ lower_half v k (box_of w.at)) (d-is : d ≡ max w.deepest m) where
-  abbrev moved_to : Walk
+  abbrev moved_to : Stand
   moved_to = record { at = at; boxes = w.boxes + 1; bytes = b; used = w.used; deepest = d }
 
   entries : take m ys ≡ take n xs ++ (e ∷ [])
@@ -178,10 +176,10 @@ module _ (w : Walk) (bs bs' : List ℕ) (xs ys : List OpenSplit) (n m : ℕ) (v 
 
 -- ---- a leaf
 
-module _ (root : Problem) (w : Walk) (bs bs' : List ℕ) (xs ys : List OpenSplit) (n m : ℕ) (l : Leaf) (u : UsesType) (b : ℕ)
+module _ (root : Problem) (w : Stand) (bs bs' : List ℕ) (xs ys : List OpenSplit) (n m : ℕ) (l : Leaf) (u : UsesType) (b : ℕ)
     (room : w.bytes + 100 ≤ length bs) (short : length (leaf_bytes l) ≤ 100) (wrote-leaf : bs' ≡ wrote w.bytes (leaf_bytes l) bs) (b-is : b ≡ w.bytes + length (leaf_bytes l))
     (noted : uses_of u ≡ also_used (rows_of w.at) (box_of root) (box_of w.at) l (uses_of w.used)) where
-  abbrev left_at : Problem → Walk
+  abbrev left_at : Problem → Stand
   left_at at = record { at = at; boxes = w.boxes + 1; bytes = b; used = u; deepest = w.deepest }
 
   abbrev told_so_far : Search
@@ -221,7 +219,7 @@ module _ (root : Problem) (w : Walk) (bs bs' : List ℕ) (xs ys : List OpenSplit
 
   -- the latest open split is taken up
   module _ (o : OpenSplit) (at : Problem) (some : 0 < n) (fits : n ≤ length xs) (m-is : m ≡ n - 1) (off : ys ≡ set xs (n - 1) blank_split) (o_is : o ≡ get_or xs (n - 1) blank_split)
-      (half : box_of at ≡ with_vars (high o.variable o.at (vars_in o.vars)) (box_of w.at)) where
+      (half : box_of at ≡ with_vars (high o.cut.0 o.cut.1 (vars_in o.vars)) (box_of w.at)) where
     off_at : ys ≡ set xs m blank_split
     off_at = off ∙ ap (λ i. set xs i blank_split) (sym m-is)
 
@@ -252,7 +250,7 @@ module _ (root : Problem) (w : Walk) (bs bs' : List ℕ) (xs ys : List OpenSplit
               let all = subst (AllByRecursion (Splits r.ends.vars.n)) entries_were h.each in
               let mine = all_last (Splits r.ends.vars.n) (take m ys) o all in
               let c : length (box_of at).vars ≡ r.ends.vars.n
-              = ap (λ (x : Box). length x.vars) half ∙ length_high o.variable o.at (vars_in o.vars) ∙ vars_long o.vars ∙ mine.0 in
+              = ap (λ (x : Box). length x.vars) half ∙ length_high o.cut.0 o.cut.1 (vars_in o.vars) ∙ vars_long o.vars ∙ mine.0 in
               record {
                 count = sym (vars_long at.ends.vars) ∙ c;
                 rows = same ∙ h.rows;

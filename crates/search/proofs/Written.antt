@@ -1,8 +1,9 @@
 -- Bytes written one after the other are bytes written at once.
-use Rattle.std.proofs.Common.{◌≡◌, ℕ, ◌+◌, ◌≤◌, List, [], ◌++◌, length, take, drop, sym, refl, ap, ◌∙◌, add-zero, add_assoc}
+use Rattle.std.proofs.Common.{◌≡◌, ℕ, ◌+◌, ◌≤◌, List, [], ◌++◌, length, length-drop, take, drop, sym, refl, ap, ◌∙◌, add-zero, add_assoc, subst, arith}
 use borrow.Rule.Slice.PartMut.{put_mid}
 use Rattle.std.proofs.lemmas.List.{append_assoc, length-append, length-take-le, take_at, drop_at, drop-drop, take-append-drop}
-use Rattle.search.specs.Written.{wrote}
+use Rattle.search.specs.declared.record.Record.{Record}
+use Rattle.search.specs.Written.{wrote, Wrote}
 
 front_long : (p : ℕ) (bs xs : List ℕ) → p ≤ length xs → length (take p xs ++ bs) ≡ p + length bs
 front_long p bs xs h = length-append (take p xs) bs ∙ ap (λ n. n + length bs) (length-take-le p xs h)
@@ -45,3 +46,22 @@ wrote_next p q bs cs xs e h = rw e (wrote_more p bs cs xs h)
 pub part_wrote : (p k : ℕ) (bs xs ys : List ℕ) → ys ≡ bs → k ≡ length bs → put_mid p k xs ys ≡ wrote p bs xs
 unfolding wrote
 part_wrote p k bs xs ys e l = rw (e, l) (ap (λ (zs : List ℕ). take p xs ++ (bs ++ zs)) (drop-drop (length bs) p xs))
+
+-- an entry written in two pieces
+pub wrote_both : (bs cs : List ℕ) (r s t : Record) → Wrote bs r s → Wrote cs s t → Wrote (bs ++ cs) r t
+wrote_both bs cs r s t first second =
+    record {
+      bytes = second.bytes ∙ ap (λ i. wrote i cs s.bytes.now) first.len ∙ ap (wrote (r.len + length bs) cs) first.bytes ∙ wrote_more r.len bs cs r.bytes.now r.within;
+      len = rw length-append (omega arith);
+      long = second.long ∙ first.long;
+      named = second.named ∙ first.named;
+    }
+
+-- as long as before
+pub wrote_long : (p : ℕ) (bs xs : List ℕ) → p + length bs ≤ length xs → length (wrote p bs xs) ≡ length xs
+unfolding wrote
+wrote_long p bs xs h = let l = length-take-le p xs (omega arith) in rw (length-append, length-append, l, length-drop) (omega arith)
+
+-- the same bytes told in two ways
+pub wrote_as : (bs cs : List ℕ) (r s : Record) → bs ≡ cs → Wrote bs r s → Wrote cs r s
+wrote_as bs cs r s e w = subst (λ (xs : List ℕ). Wrote xs r s) e w

@@ -2,6 +2,7 @@ pub mod Bytes
 pub mod Search
 pub mod Tree
 pub mod Written
+pub mod Refuted
 pub mod Shown
 pub mod Walk
 pub mod Asked

@@ -3,7 +3,7 @@ use super::uses::Uses;
 use problems::quantity::MOST;
 
 /// The word of the answer, with what belongs to it.
-#[derive(Clone, Copy)]
+#[derive(Clone, Copy, PartialEq, Eq, Debug)]
 pub enum Verdict {
     /// A plan of the box: a number for each variable; what stands past the last one means nothing.
     Plan([i64; MOST]),
@@ -14,7 +14,7 @@ pub enum Verdict {
 }
 
 /// An answer: its word, the boxes tested, the record bytes written, and how many places of the path were used.
-#[derive(Clone, Copy)]
+#[derive(Clone, Copy, PartialEq, Eq, Debug)]
 pub struct Found {
     pub verdict: Verdict,
     pub boxes: usize,

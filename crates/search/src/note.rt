@@ -1,58 +1,43 @@
 //! Noting the ends that a leaf uses, as long as no split replaced them.
 ghost use Rattle.std.specs.Prelude.{◌≡◌, ℕ, ◌<◌, ◌≤◌, true, ◌&&◌, ◌||◌, [], length, take, drop, ◌==◌, slice_index_or};
 ghost use Rattle.search.specs.Search.{also_used, still_standing};
-ghost use Rattle.search.specs.Shown.{marked, side_in, uses_of};
-ghost use Rattle.testers.specs.Leaf.{by_fixed, by_sign, formed, uses};
+ghost use Rattle.search.specs.Shown.{marked, neither, side_in, uses_of};
+ghost use Rattle.testers.specs.Leaf.{by_fixed, by_sign, uses};
 ghost use Rattle.problems.specs.View.{box_of, rows_of};
-ghost use Rattle.testers.specs.Told.{leaf_in};
+ghost use Rattle.search.specs.Refuted.{leaf_of};
 ghost use Rattle.problems.specs.declared.quantity.Side.{Side};
 
+use super::refutation::Refutation;
 use super::uses::{Sides, Uses};
 use problems::problem::Problem;
 use problems::quantity::{MOST, QUANTITIES, Span};
+use std::array;
 use testers::leaf::Leaf;
-
-impl Sides {
-    fn or(self, other: Sides) -> Sides
-        ensures { (side : Side) → side_in side result ≡ (side_in side self || side_in side other) }
-    {
-        Sides {
-            lower: self.lower || other.lower,
-            upper: self.upper || other.upper,
-        }
-    }
-
-    fn and(self, other: Sides) -> Sides
-        ensures { (side : Side) → side_in side result ≡ (side_in side self && side_in side other) }
-    {
-        Sides {
-            lower: self.lower && other.lower,
-            upper: self.upper && other.upper,
-        }
-    }
-}
 
 // The upper end for a positive multiplier, the lower end for a negative one.
 fn sign_sides(ms: &[i64], i: usize) -> Sides
-    requires { i < length ms.now }
     ensures { (side : Side) → side_in side result ≡ by_sign ms.now side i }
 {
+    let m = ms.get(i).copied().unwrap_or(0);
     Sides {
-        lower: ms[i] < 0,
-        upper: ms[i] > 0,
+        lower: m < 0,
+        upper: m > 0,
     }
+}
+
+// Both ends where they are used, else neither.
+fn both_if(used: bool) -> Sides
+    ensures { (side : Side) → side_in side result ≡ used }
+{
+    if used { Sides::BOTH } else { Sides::NEITHER }
 }
 
 // Both ends of a fixed variable whose coefficient is not 0, else neither.
 fn fixed_sides(coefs: &[i64], vars: &[Span], i: usize) -> Sides
-    requires { (i < length coefs.now) × (i < length vars.now) }
+    requires { length coefs.now ≡ length vars.now }
     ensures { (side : Side) → side_in side result ≡ by_fixed coefs.now vars.now side i }
 {
-    let used = vars[i].lower == vars[i].upper && coefs[i] != 0;
-    Sides {
-        lower: used,
-        upper: used,
-    }
+    both_if(i < coefs.len() && vars[i].lower == vars[i].upper && coefs[i] != 0)
 }
 
 // The ends of a variable that are still those of the root.
@@ -71,11 +56,7 @@ fn by_sign(ms: &[i64]) -> [Sides; MOST]
     requires { length ms.now ≤ 12 }
     ensures { (side : Side) (i : ℕ) → marked result side i ≡ by_sign ms.now side i }
 {
-    let mut sides = [Sides::NEITHER; MOST];
-    for i in 0..ms.len() {
-        sides[i] = sign_sides(ms, i);
-    }
-    sides
+    array::from_fn(|i| sign_sides(ms, i))
 }
 
 // Both ends of each fixed variable whose coefficient is not 0.
@@ -83,11 +64,7 @@ fn by_fixed(coefs: &[i64], vars: &[Span]) -> [Sides; MOST]
     requires { (length coefs.now ≤ 12) × (length coefs.now ≡ length vars.now) }
     ensures { (side : Side) (i : ℕ) → marked result side i ≡ by_fixed coefs.now vars.now side i }
 {
-    let mut sides = [Sides::NEITHER; MOST];
-    for i in 0..coefs.len() {
-        sides[i] = fixed_sides(coefs, vars, i);
-    }
-    sides
+    array::from_fn(|i| fixed_sides(coefs, vars, i))
 }
 
 // Both ends of one row.
@@ -95,30 +72,26 @@ fn both_of(row: usize) -> [Sides; MOST]
     requires { row < 12 }
     ensures { (side : Side) (i : ℕ) → marked result side i ≡ (i == row) }
 {
-    let mut sides = [Sides::NEITHER; MOST];
-    sides[row] = Sides::BOTH;
-    sides
+    array::from_fn(|i| both_if(i == row))
 }
 
 // Those of the ends that no split replaced.
-fn standing(mut sides: [Sides; MOST], root: &[Span], at: &[Span]) -> [Sides; MOST]
+fn standing(sides: &[Sides; MOST], root: &[Span], at: &[Span]) -> [Sides; MOST]
     requires { (length at.now ≤ 12) × (length root.now ≡ length at.now) }
-    ensures { (side : Side) (i : ℕ) → marked result side i ≡ (marked sides side i && still_standing root.now at.now side i) }
+    ensures { (side : Side) (i : ℕ) → marked result side i ≡ (marked sides.now side i && still_standing root.now at.now side i) }
 {
-    for i in 0..at.len() {
-        sides[i] = sides[i].and(standing_sides(root, at, i));
-    }
-    sides
+    array::from_fn(|i| if i < at.len() {
+        sides[i] & standing_sides(root, at, i)
+    } else {
+        sides[i]
+    })
 }
 
 // The ends of either table.
-fn either(mut sides: [Sides; MOST], others: &[Sides; MOST]) -> [Sides; MOST]
-    ensures { (side : Side) (i : ℕ) → marked result side i ≡ (marked sides side i || marked others.now side i) }
+fn either(sides: &[Sides; MOST], others: &[Sides; MOST]) -> [Sides; MOST]
+    ensures { (side : Side) (i : ℕ) → marked result side i ≡ (marked sides.now side i || marked others.now side i) }
 {
-    for i in 0..MOST {
-        sides[i] = sides[i].or(others[i]);
-    }
-    sides
+    array::from_fn(|i| sides[i] | others[i])
 }
 
 // The ends that a sum leaf uses.
@@ -144,24 +117,23 @@ fn used_by_divisor(problem: &Problem, row: usize) -> Uses
 }
 
 // The ends that a leaf uses.
-fn used_by(problem: &Problem, leaf: &Leaf) -> Uses
-    requires { formed (rows_of problem.now) (box_of problem.now) (leaf_in problem.now.ends.vars.n problem.now.ends.m leaf.now) ≡ true }
-    ensures { uses_of result ≡ uses (rows_of problem.now) (box_of problem.now) (leaf_in problem.now.ends.vars.n problem.now.ends.m leaf.now) }
+fn used_by(refutation: &Refutation) -> Uses
+    ensures { uses_of result ≡ uses (rows_of refutation.now.problem.now) (box_of refutation.now.problem.now) (leaf_of refutation.now) }
 {
-    match leaf {
+    let problem = refutation.problem;
+    match refutation.leaf {
         Leaf::Sum(ms) => used_by_sum(ms, problem.vars().len(), problem.row_ends().len()),
         Leaf::Divisor { row, .. } => used_by_divisor(problem, *row),
     }
 }
 
-// Notes the ends that a leaf of the problem uses: of the variables' ends those that are still the root's, and all row ends.
-pub(crate) fn note(used: &mut Uses, root: &Problem, problem: &Problem, leaf: &Leaf)
-    requires formed { formed (rows_of problem.now) (box_of problem.now) (leaf_in problem.now.ends.vars.n problem.now.ends.m leaf.now) ≡ true }
-    requires same { root.now.ends.vars.n ≡ problem.now.ends.vars.n }
-    ensures { uses_of used.new ≡ also_used (rows_of problem.now) (box_of root.now) (box_of problem.now) (leaf_in problem.now.ends.vars.n problem.now.ends.m leaf.now) (uses_of used.old) }
+// Notes the ends that a leaf uses: of the variables' ends those that are still the root's, and all row ends.
+pub(crate) fn note(used: &mut Uses, root: &Problem, refutation: &Refutation)
+    requires { root.now.ends.vars.n ≡ refutation.now.problem.now.ends.vars.n }
+    ensures { uses_of used.new ≡ also_used (rows_of refutation.now.problem.now) (box_of root.now) (box_of refutation.now.problem.now) (leaf_of refutation.now) (uses_of used.old) }
 {
-    let now = used_by(problem, leaf);
-    let vars = standing(now.vars, root.vars(), problem.vars());
-    used.vars = either(used.vars, &vars);
-    used.rows = either(used.rows, &now.rows);
+    let now = used_by(refutation);
+    let vars = standing(&now.vars, root.vars(), refutation.problem.vars());
+    used.vars = either(&used.vars, &vars);
+    used.rows = either(&used.rows, &now.rows);
 }

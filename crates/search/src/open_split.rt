@@ -5,24 +5,19 @@ ghost use Rattle.std.specs.Prelude.{◌≡◌, pos};
 use lent::entry::Entry;
 use problems::vars::Vars;
 
-/// A variable, counted from 0, the number at which it is split, and the variables' ends of the box that it splits.
+/// A split, and the variables' ends of the box that it splits.
 #[derive(Clone, Copy)]
 pub struct OpenSplit {
-    pub variable: usize,
-    pub at: i64,
+    /// A variable, counted from 0, and the number at which it is split.
+    pub cut: (usize, i64),
     pub vars: Vars,
 }
 
 impl Entry for OpenSplit {
     const BLANK: OpenSplit = OpenSplit {
-        variable: 0,
-        at: 0,
+        cut: (0, 0),
         vars: Vars::NONE,
     };
 
-    ghost blank = { record { variable = 0; at = pos 0; vars = no_vars } };
-
-    fn blank_entry() -> OpenSplit {
-        Self::BLANK
-    }
+    ghost BLANK = { record { cut = (0, pos 0); vars = no_vars } };
 }

@@ -1,10 +1,11 @@
 //! The search of a box: one call, refused or answered.
 ghost use Rattle.search.specs.Asked.{asked, bytes_told, bytes_written, granted, path_after, record_after, refusal, reply_of};
 ghost use Rattle.search.specs.Promise.{ReplyTruthful};
-ghost use Rattle.std.specs.Prelude.{◌≡◌, length, unsigned_abs};
+ghost use Rattle.std.specs.Prelude.{◌≡◌, cond, Err, Ok, length, unsigned_abs};
 
 use super::found::Found;
 use super::open_split::OpenSplit;
+use super::record::Record;
 use super::run::run;
 use lent::stack::Stack;
 use problems::problem::Problem;
@@ -17,29 +18,26 @@ pub const MOST_BOXES: i64 = 10_000;
 /// The record has room for so many bytes a box.
 pub const BOX_BYTES: usize = 100;
 
+// Refuses where a fault is found.
+fn refuse_if(fault: bool, why: Refusal, place: i64) -> Result<(), Refused>
+    ensures { result ≡ cond fault (Err (record { why = why; place = place })) (Ok tt) }
+{
+    if fault {
+        Err(Refused { why, place })
+    } else {
+        Ok(())
+    }
+}
+
 // How many boxes may be tested, with these buffers.
 fn admit(budget: i64, bytes: usize, places: usize) -> Result<usize, Refused>
     ensures { result ≡ granted (refusal budget bytes places) (unsigned_abs budget) }
 {
-    if budget < 1 || budget > MOST_BOXES {
-        return Err(Refused {
-            why: Refusal::Budget,
-            place: budget,
-        });
-    }
+    refuse_if(budget < 1 || budget > MOST_BOXES, Refusal::Budget, budget)?;
+    // From 1 to the most boxes, so the cast keeps it.
     let boxes = budget as usize;
-    if bytes < BOX_BYTES * boxes {
-        return Err(Refused {
-            why: Refusal::Buffer,
-            place: 1,
-        });
-    }
-    if places < boxes {
-        return Err(Refused {
-            why: Refusal::Buffer,
-            place: 2,
-        });
-    }
+    refuse_if(bytes < BOX_BYTES * boxes, Refusal::Buffer, 1)?;
+    refuse_if(places < boxes, Refusal::Buffer, 2)?;
     Ok(boxes)
 }
 
@@ -62,8 +60,9 @@ pub fn search_box<T: Tester>(
     ensures truthful { ReplyTruthful (T.meaning tester.old) problem.now budget (reply_of problem.now.ends.vars.n bytes.new result) }
 {
     let boxes = admit(budget, bytes.len(), path.len())?;
+    let mut written = Record::over(&mut *bytes);
     let mut stack = Stack::over(&mut *path);
-    let found = run(tester, problem, boxes, bytes, &mut stack);
+    let found = run(tester, problem, boxes, &mut written, &mut stack);
     stack.clear();
     Ok(found)
 }

@@ -1,12 +1,14 @@
 //! The ends that a refutation rests on.
 ghost use Rattle.search.specs.Search.{unused};
-ghost use Rattle.search.specs.Shown.{uses_of};
-ghost use Rattle.std.specs.Prelude.{◌≡◌};
+ghost use Rattle.search.specs.Shown.{side_in, uses_of};
+ghost use Rattle.std.specs.Prelude.{◌≡◌, ◌&&◌, ◌||◌};
+ghost use Rattle.problems.specs.declared.quantity.Side.{Side};
 
 use problems::quantity::MOST;
+use std::ops::{BitAnd, BitOr};
 
 /// Which of a quantity's two ends.
-#[derive(Clone, Copy)]
+#[derive(Clone, Copy, PartialEq, Eq, Debug)]
 pub struct Sides {
     pub lower: bool,
     pub upper: bool,
@@ -24,8 +26,36 @@ impl Sides {
     };
 }
 
+/// The ends of both.
+impl BitAnd for Sides {
+    type Output = Sides;
+
+    ghost bitand_gives = { λ a b c. (side : Side) → side_in side c ≡ (side_in side a && side_in side b) };
+
+    fn bitand(self, other: Sides) -> Sides {
+        Sides {
+            lower: self.lower && other.lower,
+            upper: self.upper && other.upper,
+        }
+    }
+}
+
+/// The ends of either.
+impl BitOr for Sides {
+    type Output = Sides;
+
+    ghost bitor_gives = { λ a b c. (side : Side) → side_in side c ≡ (side_in side a || side_in side b) };
+
+    fn bitor(self, other: Sides) -> Sides {
+        Sides {
+            lower: self.lower || other.lower,
+            upper: self.upper || other.upper,
+        }
+    }
+}
+
 /// For each variable and each row, which of its ends is used.
-#[derive(Clone, Copy)]
+#[derive(Clone, Copy, PartialEq, Eq, Debug)]
 pub struct Uses {
     pub vars: [Sides; MOST],
     pub rows: [Sides; MOST],

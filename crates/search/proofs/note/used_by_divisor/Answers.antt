@@ -10,6 +10,3 @@ by_fixed-requires c =
     let coefs : length c.coefs.result.now ≡ length (box_of p).vars = ap length c.coefs.ensures ∙ row_length _ (rows_of p) c.args.row (proper p).coefficients c.requires in
     let vars : length c.vars.result.now ≡ length (box_of p).vars = ap length c.vars.ensures in
     (omega (arith, (proper p).few_variables), coefs ∙ sym vars)
-
-pub both_of-requires : goal.both_of-requires
-both_of-requires c = omega (arith, (proper c.args.problem.now).few_rows)

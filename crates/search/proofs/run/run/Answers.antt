@@ -1,48 +1,41 @@
-use Rattle.std.proofs.Common.{◌≡◌, ◌*◌, ◌≤◌, take, drop, sym, ap, ◌∙◌, subst, arith}
+use Rattle.std.proofs.Common.{◌≡◌, sym, ap, ◌∙◌, drop, subst}
 use Rattle.testers.specs.Tester.{Meaning}
 use Rattle.problems.specs.View.{box_of, rows_of}
 use Rattle.search.specs.declared.found.Found.{Found as FoundType}
 use Rattle.search.specs.Search.{told}
 use Rattle.search.specs.Shown.{found_of}
-use Rattle.search.specs.Walk.{state_of, Blanked}
+use Rattle.search.specs.Walk.{reached}
 use Rattle.search.proofs.Runs.{goes_on, ends_here, kept_on}
 use Rattle.search.proofs.run.run.Goals as goal
 
-pub returns-in-Some : goal.returns-in-Some
-returns-in-Some g c =
+pub returns-in-Some-clause-answer : goal.returns-in-Some-clause-answer
+returns-in-Some-clause-answer g c =
     let i = c.loop-walk.invariant in
-    let root = c.args.root.now in
     let w = c.loop-walk.walk in
-    let slots = c.loop-walk.stack.slots.now in
-    let len = c.loop-walk.stack.len in
-    let e = c.in-Some.ensures in
-    record {
-      answer = ap (found_of root.ends.vars.n c.step.new.bytes) c.tell.ensures
-          ∙ ends_here (g.T.Tester.meaning c.args.tester.now) root c.args.budget c.args.bytes.now c.args.stack.now.slots.now w c.step.new.walk c.loop-walk.bytes c.step.new.bytes
-          slots c.step.new.stack.slots.now len c.step.new.stack.len i.0 c.loop-walk-test.true e.moved _
-          (λ further. ap (λ (m : Meaning). told (rows_of root) (box_of root) further (state_of w c.loop-walk.bytes (take len slots)) (m (rows_of root) (box_of w.at))) (sym i.1) ∙ e.goes further);
-      room = subst (λ (f : FoundType). f.bytes ≤ 100 * c.args.budget) (sym c.tell.ensures)
-          (omega (arith, i.0.room, e.moved.room, c.loop-walk-test.true));
-      kept = subst (λ (f : FoundType). drop f.bytes c.step.new.bytes ≡ drop f.bytes c.args.bytes.now) (sym c.tell.ensures)
-          (kept_on (g.T.Tester.meaning c.args.tester.now) root c.args.budget c.args.bytes.now c.args.stack.now.slots.now w c.step.new.walk c.loop-walk.bytes c.step.new.bytes
-          slots c.step.new.stack.slots.now len c.step.new.stack.len i.0 c.loop-walk-test.true e.moved);
-      blanks = subst (λ (f : FoundType). Blanked c.args.stack.now.slots.now f.deepest c.step.new.stack.slots.now c.step.new.stack.len) (sym c.tell.ensures)
-          (e.moved.blanks c.args.stack.now.slots.now i.0.blanks);
-      named = e.named ∙ i.2;
-      same = e.same ∙ i.1;
-    }
+    let r = c.loop-walk.written in
+    let s = c.loop-walk.stack in
+    ap (found_of c.args.root.now.ends.vars.n c.step.new.written.bytes.now) c.tell.ensures
+    ∙ ends_here (g.T.Tester.meaning c.args.tester.now) c.args.root.now c.args.budget c.args.written.now c.args.stack.now w r s i.0
+    c.step.new.self c.step.new.written c.step.new.stack c.loop-walk-test.true c.in-Some.ensures.moved c.in-Some.verdict
+    (λ further. ap (λ (m : Meaning). told (rows_of w.root.now) (box_of w.root.now) further (reached w r s) (m (rows_of w.root.now) (box_of w.at))) (sym i.1) ∙ c.in-Some.ensures.goes further)
+
+pub returns-in-Some-clause-kept : goal.returns-in-Some-clause-kept
+returns-in-Some-clause-kept g c =
+    let q = c.args.written.now in
+    let r' = c.step.new.written in
+    subst (λ (f : FoundType). drop f.bytes r'.bytes.now ≡ drop f.bytes q.bytes.now) (sym c.tell.ensures)
+    (kept_on (g.T.Tester.meaning c.args.tester.now) c.args.root.now c.args.budget q c.args.stack.now c.loop-walk.walk c.loop-walk.written c.loop-walk.stack c.loop-walk.invariant.0
+    c.step.new.self r' c.step.new.stack c.loop-walk-test.true c.in-Some.ensures.moved)
 
 pub loop-walk-preserved : goal.loop-walk-preserved
 loop-walk-preserved g c =
     let i = c.loop-walk.invariant in
-    let root = c.args.root.now in
     let w = c.loop-walk.walk in
-    let slots = c.loop-walk.stack.slots.now in
-    let len = c.loop-walk.stack.len in
+    let r = c.loop-walk.written in
+    let s = c.loop-walk.stack in
     let e = c.in_default.ensures in (
-      goes_on (g.T.Tester.meaning c.args.tester.now) root c.args.budget c.args.bytes.now c.args.stack.now.slots.now w c.step.new.walk c.loop-walk.bytes c.step.new.bytes
-          slots c.step.new.stack.slots.now len c.step.new.stack.len i.0 c.loop-walk-test.true e.moved
-          (λ further. ap (λ (m : Meaning). told (rows_of root) (box_of root) further (state_of w c.loop-walk.bytes (take len slots)) (m (rows_of root) (box_of w.at))) (sym i.1) ∙ e.goes further),
+      goes_on (g.T.Tester.meaning c.args.tester.now) c.args.root.now c.args.budget c.args.written.now c.args.stack.now w r s i.0
+          c.step.new.self c.step.new.written c.step.new.stack c.loop-walk-test.true e.moved
+          (λ further. ap (λ (m : Meaning). told (rows_of w.root.now) (box_of w.root.now) further (reached w r s) (m (rows_of w.root.now) (box_of w.at))) (sym i.1) ∙ e.goes further),
       e.same ∙ i.1,
-      e.named ∙ i.2,
     )

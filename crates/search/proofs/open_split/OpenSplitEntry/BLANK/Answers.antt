@@ -3,10 +3,10 @@ use Rattle.problems.specs.declared.vars.Vars.{Vars}
 use Rattle.problems.specs.Blank.{no_vars}
 use Rattle.problems.proofs.Views.{vars_same}
 use Rattle.search.specs.declared.open_split.OpenSplit.{OpenSplit}
-use Rattle.search.proofs.open_split.OpenSplitEntry.blank_entry.Goals as goal
+use Rattle.search.proofs.open_split.OpenSplitEntry.BLANK.Goals as goal
 
 at_zero : Vars → OpenSplit
-at_zero v = record { variable = 0; at = pos 0; vars = v }
+at_zero v = record { cut = (0, pos 0); vars = v }
 
 pub returns : goal.returns
 unfolding at_zero
