@@ -1,5 +1,5 @@
 -- Faults of a call, in the order in which they are looked for.
-use Rattle.std.specs.Prelude.{ℕ, suc, Bool, cond, List, [], ◌∷◌, pos, Some, None, Ok, Err, Option, Result}
+use Rattle.std.specs.Prelude.{ℕ, suc, ◌+◌, ◌≡◌, All, Bool, cond, List, [], ◌∷◌, pos, Some, None, Ok, Err, Option, Result}
 use Rattle.problems.specs.declared.refusal.Refusal.{Refusal}
 use Rattle.problems.specs.declared.refusal.Refused.{Refused}
 
@@ -28,3 +28,13 @@ replied told (Some r) = Err r
 -- refused by the first fault that is met
 abbrev pub judged : List Fault → Result (Unit {0}) Refused
 judged fs = replied tt (first_fault fs)
+
+-- ---- the items of a list, looked at one after another
+
+-- whatever is answered at an item is `bad` of it
+abbrev pub AnswersAre : {A : Type 0} → (A → Bool → Type 0) → (A → Bool) → List A → Type 0
+AnswersAre answers bad xs = All (λ x. (met : Bool) → answers x met → met ≡ bad x) xs
+
+-- what is told of the item at index i
+abbrev pub placed : Refusal → ℕ → Refused
+placed why i = record { why = why; place = pos (i + 1) }

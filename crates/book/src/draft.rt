@@ -1,12 +1,12 @@
 //! Drafting a problem: the caller holds the draft, and opens it when it is done.
 ghost use Rattle.std.specs.Prelude.{◌≡◌, ◌≤◌};
-ghost use Rattle.book.specs.Draft.{EveryDraftIsProper, begun, crossed, held, large, miscounted, new_faults, number_faults, out_of_range, row_added, row_faults, same_row};
+ghost use Rattle.book.specs.Draft.{EveryDraftIsProper, begun, crossed, held, large, miscounted, new_faults, out_of_range, row_added, row_faults, same_row};
 ghost use Rattle.book.specs.Fault.{each, judged};
 ghost use Rattle.problems.specs.Stated.{one_point, stated};
 ghost use Rattle.problems.specs.View.{rows_of};
 ghost use Rattle.problems.specs.declared.refusal.Refusal.TheVariants.{Cross, Range, Repeat};
 
-use super::fault::refuse_if;
+use super::fault::{refuse_at, refuse_first, refuse_if};
 use problems::problem::Problem;
 use problems::quantity::{MOST, RowEnds, Span};
 use problems::ranges::{is_coefficient, is_row_end};
@@ -65,27 +65,7 @@ impl Draft {
 fn is_miscounted(n: i64, spans: &[Span]) -> bool
     ensures { result ≡ miscounted n spans.now }
 {
-    n < 1 || n > MOST as i64 || n as usize != spans.len()
-}
-
-// Refuses an end of a variable that is out of its range.
-fn check_ranges(spans: &[Span]) -> Result<(), Refused>
-    ensures { result ≡ judged (each out_of_range Range 1 spans.now) }
-{
-    for (i, span) in spans.iter().enumerate() {
-        refuse_if(!span.in_range(), Refusal::Range, i + 1)?;
-    }
-    Ok(())
-}
-
-// Refuses ends of a variable that cross.
-fn check_order(spans: &[Span]) -> Result<(), Refused>
-    ensures { result ≡ judged (each crossed Cross 1 spans.now) }
-{
-    for (i, span) in spans.iter().enumerate() {
-        refuse_if(span.crosses(), Refusal::Cross, i + 1)?;
-    }
-    Ok(())
+    n < 1 || n > MOST as i64 || usize::try_from(n) != Ok(spans.len())
 }
 
 // Refuses what `new` refuses.
@@ -93,38 +73,18 @@ fn check_new(n: i64, spans: &[Span]) -> Result<(), Refused>
     ensures { result ≡ judged (new_faults n spans.now) }
 {
     refuse_if(is_miscounted(n, spans), Refusal::Length, 0)?;
-    check_ranges(spans)?;
-    check_order(spans)
-}
-
-// Refuses a coefficient that is out of its range.
-fn check_coefficients(coefs: &[i64]) -> Result<(), Refused>
-    ensures { result ≡ judged (each large Range 1 coefs.now) }
-{
-    for (i, a) in coefs.iter().enumerate() {
-        refuse_if(!is_coefficient(*a), Refusal::Range, i + 1)?;
-    }
-    Ok(())
-}
-
-// Refuses a number of the row that is out of its range: the coefficients, then the lower end, then the upper end.
-fn check_numbers(n: usize, coefs: &[i64], ends: RowEnds) -> Result<(), Refused>
-    requires { n ≤ 12 }
-    ensures { result ≡ judged (number_faults n coefs.now ends) }
-{
-    check_coefficients(coefs)?;
-    refuse_if(!is_row_end(ends.lower), Refusal::Range, n + 1)?;
-    refuse_if(!is_row_end(ends.upper), Refusal::Range, n + 2)
+    refuse_first(spans, |span| !span.in_range(), Refusal::Range)?;
+    refuse_first(spans, |span| span.crosses(), Refusal::Cross)
 }
 
 // Refuses coefficients that an earlier row has.
 fn check_repeats(problem: &Problem, coefs: &[i64]) -> Result<(), Refused>
     ensures { result ≡ judged (each (same_row coefs.now) Repeat 1 (rows_of problem.now)) }
 {
-    for i in 0..problem.rows() {
-        refuse_if(coefs == problem.coefs(i), Refusal::Repeat, i + 1)?;
-    }
-    Ok(())
+    refuse_at(
+        (0..problem.rows()).position(|i| coefs == problem.coefs(i)),
+        Refusal::Repeat,
+    )
 }
 
 // Refuses what `add_row` refuses.
@@ -134,7 +94,9 @@ fn check_row(problem: &Problem, coefs: &[i64], ends: RowEnds) -> Result<(), Refu
     let n = problem.variables();
     let m = problem.rows();
     refuse_if(coefs.len() != n, Refusal::Length, 0)?;
-    check_numbers(n, coefs, ends)?;
+    refuse_first(coefs, |a| !is_coefficient(*a), Refusal::Range)?;
+    refuse_if(!is_row_end(ends.lower), Refusal::Range, n + 1)?;
+    refuse_if(!is_row_end(ends.upper), Refusal::Range, n + 2)?;
     refuse_if(ends.cross(), Refusal::Cross, n + m + 1)?;
     check_repeats(problem, coefs)?;
     refuse_if(m >= MOST, Refusal::Full, MOST)

@@ -1,27 +1,22 @@
-use Rattle.std.proofs.Common.{sym, ap, ◌∙◌, w64}
+use Rattle.std.proofs.Common.{ap, ◌∙◌, w64, rules}
 use Rattle.std.proofs.lemmas.Int.{to_z-of_z}
-use Rattle.problems.specs.declared.refusal.Refusal.TheVariants.{Range, Cross}
-use Rattle.book.specs.Fault.{each}
 use Rattle.book.specs.Draft.{miscounted, out_of_range, crossed}
-use Rattle.book.proofs.Faults.{passed, refused, exit}
-use Rattle.book.proofs.Drafts.{new_counted}
+use Rattle.book.proofs.Faults.{pass, stop, exit}
+use Rattle.book.proofs.Drafts.{new_says}
 use Rattle.book.proofs.draft.check_new.Goals as goal
 
-pub returns-in_err-check_ranges : goal.returns-in_err-check_ranges
-returns-in_err-check_ranges c =
+pub returns-in_err-refuse_first : goal.returns-in_err-refuse_first
+returns-in_err-refuse_first c =
     let n = c.args.n in
     let ss = c.args.spans.now in
-    let r = c.in_err-check_ranges.field-0.0 in
-    let met = c.is_miscounted.ensures ∙ ap (λ z. miscounted z ss) (to_z-of_z w64 n c.ranges.n) in
-    exit c.from_residual-in_err-check_ranges.result r c.from_residual-in_err-check_ranges.ensures.1
-    ∙ sym (new_counted n ss c.is_miscounted.result met c.in_ok-refuse_if.ensures
-    ∙ refused (each out_of_range Range 1 ss) (each crossed Cross 1 ss) r (sym c.in_err-check_ranges.ensures))
+    exit c.from_residual-in_err-refuse_first.result c.in_err-refuse_first.field-0.0 c.from_residual-in_err-refuse_first.ensures.1
+    ∙ new_says n ss (c.is_miscounted.ensures ∙ ap (λ z. miscounted z ss) (to_z-of_z w64 n c.ranges.n))
+    (pass c.in_ok-refuse_if.ensures (stop _ (c.in_err-refuse_first.ensures out_of_range (λ k d l met e. search rules))))
 
 pub returns : goal.returns
 returns c =
     let n = c.args.n in
     let ss = c.args.spans.now in
-    let met = c.is_miscounted.ensures ∙ ap (λ z. miscounted z ss) (to_z-of_z w64 n c.ranges.n) in
-    c.check_order.ensures
-    ∙ sym (new_counted n ss c.is_miscounted.result met c.in_ok-refuse_if.ensures
-    ∙ passed (each out_of_range Range 1 ss) (each crossed Cross 1 ss) (sym c.in_ok-check_ranges.ensures))
+    new_says n ss (c.is_miscounted.ensures ∙ ap (λ z. miscounted z ss) (to_z-of_z w64 n c.ranges.n))
+    (pass c.in_ok-refuse_if.ensures
+    (pass (c.in_ok-refuse_first.ensures out_of_range (λ k d l met e. search rules)) (c.refuse_first-2.ensures crossed (λ k d l met e. search rules))))

@@ -1,15 +1,9 @@
 use Rattle.std.proofs.Common.{◌≡◌, ◌+◌, length, Ok, sym, ap, ◌∙◌, arith}
 use Rattle.std.proofs.lemmas.List.{length_push}
 use Rattle.problems.specs.Stated.{Stated, stated, with_row}
-use Rattle.problems.proofs.Views.{proper}
 use Rattle.book.specs.Draft.{row_faults}
 use Rattle.book.proofs.Drafts.{accepted, added}
 use Rattle.book.proofs.draft.Draft.add_row.Goals as goal
-
-pub overflow_add-result : goal.overflow_add-result
-overflow_add-result c =
-    let a = proper c.add_row.new.self in
-    omega (arith, a.few_variables, a.few_rows, c.variables.ensures.value, c.rows.ensures.value)
 
 -- the row was added
 after : (c : goal.After-rows) → stated c.add_row.new.self ≡ with_row c.args.coefs.now c.args.ends (stated c.args.self.now.problem)
