@@ -1,6 +1,5 @@
 -- What is lent for a budget is enough: no search is refused for its buffers.
-use Rattle.std.proofs.Common.{◌≡◌, ℕ, ◌-◌, ◌*◌, ◌≤◌, min, List, ◌++◌, length, take, ℤ, pos, negsuc, nat_abs, Result, refl, ◌∙◌, arith, length-take, take_at}
-use native.Mathlib.Nat.{sub-zero}
+use Rattle.std.proofs.Common.{◌≡◌, ℕ, ◌*◌, ◌≤◌, min, List, ◌++◌, length, take, ℤ, pos, negsuc, nat_abs, Result, refl, ◌∙◌, arith, length-take, take_at}
 use Rattle.std.proofs.lemmas.Bool.Decides.{nat_tests}
 use Rattle.problems.specs.declared.problem.Problem.{Problem}
 use Rattle.problems.specs.declared.refusal.Refused.{Refused}
@@ -21,8 +20,8 @@ lent_is_enough (pos n) = grind (arith, nat_tests)
 lent_is_enough (negsuc n) = refl
 
 -- the front that is lent has the length that was asked for
-pub lent_long : {A : Type 0} (xs : List A) (k n : ℕ) → k ≡ min (length xs) n → n ≤ length xs → length (take (k - 0) xs) ≡ n
-lent_long xs k n e h = simp (length-take, sub-zero) (omega (arith, e))
+pub lent_long : {A : Type 0} (xs : List A) (k n : ℕ) → k ≡ min (length xs) n → n ≤ length xs → length (take k xs) ≡ n
+lent_long xs k n e h = simp length-take (omega (arith, e))
 
 -- the answer to what is lent is the answer
 pub answer_within : (p : Problem) (budget : ℤ) (last rest : List ℕ) (bytes places : ℕ) (r : Result FoundType Refused) → bytes ≡ 100 * lent_for budget → places ≡ lent_for budget → length last ≡ bytes → reply_of p.ends.vars.n last r ≡ asked halving p budget bytes places → reply_of (length (box_of p).vars) (lent budget (last ++ rest)) r ≡ granted (over_budget budget) (search_box halving (rows_of p) (box_of p) (nat_abs budget))

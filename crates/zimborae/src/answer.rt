@@ -3,13 +3,15 @@ ghost use Rattle.std.specs.Prelude.{◌≡◌, ◌≤◌, length};
 ghost use Rattle.zimborae.specs.Answer.{desk_after, reply_to, telling, told_by};
 ghost use Rattle.zimborae.specs.Desk.{standing};
 
-use super::call::{Call, Pile};
+use super::call::Call;
 use super::desk::Desk;
 use super::reply::Reply;
 use super::stop::Stop;
 use search::open_split::OpenSplit;
 
 /// The answer of the call. What is lent for a search has room for the largest budget.
+// Two buffers and not one struct: the answer keeps the record and not the path, and no proof is made of a
+// struct of two `&mut` of which one goes on.
 pub(crate) fn answer<'a>(
     desk: &mut Desk,
     call: &Call,
@@ -31,9 +33,6 @@ pub(crate) fn answer<'a>(
             desk.open()?;
             Ok(Reply::Done)
         }
-        Call::Ask {
-            tester: Pile::Halving,
-            budget,
-        } => Ok(Reply::Found(desk.ask(*budget, bytes, path)?)),
+        Call::Ask { budget } => Ok(Reply::Found(desk.ask(*budget, bytes, path)?)),
     }
 }

@@ -7,33 +7,18 @@ use super::words::{end, number};
 use problems::quantity::{RowEnds, Span};
 use std::alloc::{AllocError, Global};
 
-/// Whom to ask.
-#[derive(Clone, Copy)]
-pub enum Pile {
-    Halving,
-}
-
 /// A call with what it was given.
 #[derive(Drop)]
 pub enum Call {
     New { n: i64, ends: Vec<Span> },
     Row { coefs: Vec<i64>, ends: RowEnds },
     Open,
-    Ask { tester: Pile, budget: i64 },
+    Ask { budget: i64 },
 }
 
 // The numbers that the words write.
 fn numbers<'a>(heap: Global, words: &[&'a str]) -> Result<Vec<i64>, Why<'a>> {
-    let mut all = Vec::new(heap);
-    for word in words {
-        let Some(x) = number(*word) else {
-            return Err(Why::NoNumber(*word));
-        };
-        if all.push(x).is_err() {
-            return Err(Why::NoMemory);
-        }
-    }
-    Ok(all)
+    words.iter().copied().map(number).try_collect(heap)
 }
 
 // The numbers two by two as ends. Where one is left over the list is not one of pairs, and no number of
@@ -41,32 +26,24 @@ fn numbers<'a>(heap: Global, words: &[&'a str]) -> Result<Vec<i64>, Why<'a>> {
 fn spans(heap: Global, numbers: &[i64]) -> Result<Vec<Span>, AllocError>
     ensures value { IfOk result (λ v. v.items ≡ paired numbers.now) }
 {
-    let mut all = Vec::new(heap);
     if numbers.len() % 2 != 0 {
-        return Ok(all);
+        return Ok(Vec::new(heap));
     }
-    for i in 0..numbers.len() / 2 {
-        let lower = numbers[2 * i];
-        let upper = numbers[2 * i + 1];
-        all.push(Span { lower, upper })?;
-    }
-    Ok(all)
-}
-
-fn row_end<'a>(word: &'a str) -> Result<Option<i64>, Why<'a>> {
-    match end(word) {
-        Some(end) => Ok(end),
-        None => Err(Why::NoEnd(word)),
-    }
+    let (pairs, _) = numbers.as_chunks::<2>();
+    pairs
+        .iter()
+        .map(|pair| Span {
+            lower: pair[0],
+            upper: pair[1],
+        })
+        .collect(heap)
 }
 
 fn read_new<'a>(heap: Global, words: &[&'a str]) -> Result<Call, Why<'a>> {
     let [first, rest @ ..] = words else {
         return Err(Why::TooFew("new", "a number of variables"));
     };
-    let Some(n) = number(*first) else {
-        return Err(Why::NoNumber(*first));
-    };
+    let n = number(*first)?;
     let numbers = numbers(heap, rest)?;
     let ends = spans(heap, numbers.as_slice())?;
     Ok(Call::New { n, ends })
@@ -77,8 +54,8 @@ fn read_row<'a>(heap: Global, words: &[&'a str]) -> Result<Call, Why<'a>> {
         return Err(Why::TooFew("row", "two ends"));
     };
     let coefs = numbers(heap, coefs)?;
-    let lower = row_end(*lower)?;
-    let upper = row_end(*upper)?;
+    let lower = end(*lower)?;
+    let upper = end(*upper)?;
     let ends = RowEnds { lower, upper };
     Ok(Call::Row { coefs, ends })
 }
@@ -97,16 +74,11 @@ fn read_ask<'a>(words: &[&'a str]) -> Result<Call, Why<'a>> {
     if *tester != "halving" {
         return Err(Why::NoTester(*tester));
     }
-    let Some(amount) = number(*budget) else {
-        return Err(Why::NoNumber(*budget));
-    };
+    let budget = number(*budget)?;
     if let [word, ..] = rest {
         return Err(Why::TooMany(*word));
     }
-    Ok(Call::Ask {
-        tester: Pile::Halving,
-        budget: amount,
-    })
+    Ok(Call::Ask { budget })
 }
 
 /// The call that the line is.

@@ -28,13 +28,7 @@ pub struct Desk {
 fn boxes_of(budget: i64) -> usize
     ensures value { result ≡ lent_for budget }
 {
-    if budget < 0 {
-        0
-    } else if budget > MOST_BOXES {
-        MOST_BOXES as usize
-    } else {
-        budget as usize
-    }
+    budget.clamp(0, MOST_BOXES) as usize
 }
 
 // Searches with the front of the buffers, as much as the budget can need.
@@ -53,8 +47,8 @@ fn search_lent(
         &mut Halving,
         problem,
         budget,
-        &mut bytes[0..room],
-        &mut path[0..places],
+        &mut bytes[..room],
+        &mut path[..places],
     )
 }
 
@@ -62,7 +56,7 @@ fn search_lent(
 fn front(bytes: &[u8], n: usize) -> &[u8]
     ensures value { result.now ≡ take n bytes.now }
 {
-    if n < bytes.len() { &bytes[0..n] } else { bytes }
+    bytes.get(..n).unwrap_or(bytes)
 }
 
 impl Desk {
@@ -81,10 +75,8 @@ impl Desk {
         ensures value { result ≡ (begins (standing self.old) n ends.now).reply }
         ensures after { standing self.new ≡ (begins (standing self.old) n ends.now).after }
     {
-        let mut draft = self.draft.take().unwrap_or(Draft::first());
-        let told = draft.new(n, ends);
-        self.draft = Some(draft);
-        Ok(told?)
+        let draft = self.draft.get_or_insert_with(Draft::first);
+        draft.new(n, ends).map_err(Stop::Refused)
     }
 
     /// Adds a row to the draft, and tells the number of its quantity.
@@ -92,12 +84,8 @@ impl Desk {
         ensures value { result ≡ (adds_row (standing self.old) coefs.now ends).reply }
         ensures after { standing self.new ≡ (adds_row (standing self.old) coefs.now ends).after }
     {
-        let Some(mut draft) = self.draft.take() else {
-            return Err(Stop::NoDraft);
-        };
-        let told = draft.add_row(coefs, ends);
-        self.draft = Some(draft);
-        Ok(told?)
+        let draft = self.draft.as_mut().ok_or(Stop::NoDraft)?;
+        draft.add_row(coefs, ends).map_err(Stop::Refused)
     }
 
     /// Opens the draft; there is none then.
@@ -105,9 +93,7 @@ impl Desk {
         ensures value { result ≡ (opens (standing self.old)).reply }
         ensures after { standing self.new ≡ (opens (standing self.old)).after }
     {
-        let Some(draft) = self.draft.take() else {
-            return Err(Stop::NoDraft);
-        };
+        let draft = self.draft.take().ok_or(Stop::NoDraft)?;
         self.problem = Some(draft.open());
         Ok(())
     }
@@ -121,10 +107,8 @@ impl Desk {
     ) -> Result<Shown<'a>, Stop>
         ensures answer { 1000000 ≤ length bytes.old → 10000 ≤ length path.old → shown_reply result ≡ answered (standing self.now).problem budget }
     {
-        let Some(problem) = &self.problem else {
-            return Err(Stop::NothingOpen);
-        };
-        let found = search_lent(problem, budget, bytes, path)?;
+        let problem = self.problem.as_ref().ok_or(Stop::NothingOpen)?;
+        let found = search_lent(problem, budget, bytes, path).map_err(Stop::Refused)?;
         Ok(Shown {
             verdict: found.verdict,
             variables: problem.variables(),

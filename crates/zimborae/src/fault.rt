@@ -1,39 +1,25 @@
 //! Why a line is not answered: it is no call, or its call stops.
-ghost use Rattle.zimborae.specs.declared.fault.Fault.TheVariants.{Stopped, Unread};
+ghost use Rattle.zimborae.specs.declared.fault.Fault.TheVariants.{Stopped};
 ghost use Rattle.std.specs.Prelude.{◌≡◌};
 
 use super::stop::Stop;
 use super::why::Why;
-use std::fmt;
+use thiserror::Error;
 
 /// Either of the two.
-#[derive(Clone, Copy)]
+#[derive(Clone, Copy, Debug, Error)]
 pub enum Fault<'a> {
+    #[error(transparent)]
     Unread(Why<'a>),
+    #[error(transparent)]
     Stopped(Stop),
 }
 
-impl<'a> From<Why<'a>> for Fault<'a> {
-    ghost from_gives = { λ e r. r ≡ Unread e };
-
-    fn from(why: Why<'a>) -> Fault<'a> {
-        Fault::Unread(why)
-    }
-}
-
+// Written out, since a contract names the case that `?` makes.
 impl<'a> From<Stop> for Fault<'a> {
     ghost from_gives = { λ e r. r ≡ Stopped e };
 
     fn from(stop: Stop) -> Fault<'a> {
         Fault::Stopped(stop)
-    }
-}
-
-impl fmt::Display for Fault<'_> {
-    fn fmt<W: fmt::Write>(&self, f: &mut fmt::Formatter<W>) -> fmt::Result {
-        match self {
-            Fault::Unread(why) => write!(f, "{why}"),
-            Fault::Stopped(stop) => write!(f, "{stop}"),
-        }
     }
 }

@@ -23,18 +23,18 @@ mod tests;
 mod why;
 mod words;
 
-use anyhow::anyhow;
+use anyhow::ensure;
 use script::answer_all;
 use std::io::{BufReader, BufWriter};
 
 fn run(rt: &HostRuntime) -> anyhow::Result<()> {
     let mut input = BufReader::new(rt.alloc(), rt.stdin())?;
     let mut output = BufWriter::new(rt.alloc(), rt.stdout())?;
-    if answer_all(rt.alloc(), &mut input, &mut output)? {
-        Ok(())
-    } else {
-        Err(anyhow!("some lines are not answered"))
-    }
+    ensure!(
+        answer_all(rt.alloc(), &mut input, &mut output)?,
+        "some lines are not answered"
+    );
+    Ok(())
 }
 
 fn main(rt: HostRuntime) -> anyhow::Result<()> {

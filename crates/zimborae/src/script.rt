@@ -24,18 +24,15 @@ const BYTES: usize = BOX_BYTES * PLACES;
 
 // Whether a line has nothing to answer: it is empty, or a remark.
 fn is_silent(line: &[u8]) -> bool {
-    match line.trim_ascii_start().first() {
-        Some(byte) => *byte == b'#',
-        None => true,
-    }
+    line.trim_ascii_start()
+        .first()
+        .is_none_or(|byte| *byte == b'#')
 }
 
 // The call that the bytes of a line are.
 fn read_bytes<'a>(heap: Global, line: &'a [u8]) -> Result<Call, Why<'a>> {
-    match std::str::from_utf8(line) {
-        Ok(text) => read(heap, text),
-        Err(_) => Err(Why::NotText),
-    }
+    let text = std::str::from_utf8(line).map_err(|_| Why::NotText)?;
+    read(heap, text)
 }
 
 // The answer of one line.
@@ -50,7 +47,7 @@ fn answer_line<'a>(
     requires deep { 10000 ≤ length path.old }
     ensures same { KeptUnlessRead result (standing desk.old) (standing desk.new) }
 {
-    let call = read_bytes(heap, line)?;
+    let call = read_bytes(heap, line).map_err(Fault::Unread)?;
     Ok(answer(desk, &call, bytes, path)?)
 }
 
@@ -86,6 +83,7 @@ pub fn answer_all<R: Read, W: Write>(
     let mut desk = Desk::first();
     let mut line = Vec::new(heap);
     let mut good = true;
+    // The end of the input ends the loop: no input has so many lines.
     for number in 1..u64::MAX {
         if !input.buffer().contains(&b'\n') {
             output.flush()?;

@@ -21,7 +21,7 @@ fn show_plan<W: fmt::Write>(
     f: &mut fmt::Formatter<W>,
 ) -> fmt::Result {
     f.write_str("plan")?;
-    for x in &point[0..n.min(MOST)] {
+    for x in point.iter().take(n) {
         write!(f, " {x}")?;
     }
     Ok(())

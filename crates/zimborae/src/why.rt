@@ -3,28 +3,31 @@ ghost use Rattle.std.specs.Prelude.{◌≡◌, ◌≤◌, length, take};
 
 use std::alloc::AllocError;
 use std::fmt;
+use thiserror::Error;
 
 // A longer word is cut when it is shown.
 const SHOWN: usize = 40;
 
 /// Why a line is no call.
-#[derive(Clone, Copy)]
+#[derive(Clone, Copy, Debug, Error)]
 pub enum Why<'a> {
+    #[error("the line is not UTF-8")]
     NotText,
+    #[error("{} is not a call", Quoted(.0))]
     NoCall(&'a str),
+    #[error("{} is not a number", Quoted(.0))]
     NoNumber(&'a str),
+    #[error("{} is neither a number nor \"-\"", Quoted(.0))]
     NoEnd(&'a str),
+    #[error("{} is not a tester", Quoted(.0))]
     NoTester(&'a str),
+    #[error("{} is one word too many", Quoted(.0))]
     TooMany(&'a str),
     /// A call, and the words that it lacks.
+    #[error("{0:?} wants {1}")]
     TooFew(&'static str, &'static str),
-    NoMemory,
-}
-
-impl From<AllocError> for Why<'_> {
-    fn from(_error: AllocError) -> Self {
-        Why::NoMemory
-    }
+    #[error("no memory is left for the line")]
+    NoMemory(#[from] AllocError),
 }
 
 // The front of the word, as much of it as is shown.
@@ -48,20 +51,5 @@ impl fmt::Display for Quoted<'_> {
             f.write_str("...")?;
         }
         Ok(())
-    }
-}
-
-impl fmt::Display for Why<'_> {
-    fn fmt<W: fmt::Write>(&self, f: &mut fmt::Formatter<W>) -> fmt::Result {
-        match *self {
-            Why::NotText => f.write_str("the line is not UTF-8"),
-            Why::NoCall(word) => write!(f, "{} is not a call", Quoted(word)),
-            Why::NoNumber(word) => write!(f, "{} is not a number", Quoted(word)),
-            Why::NoEnd(word) => write!(f, "{} is neither a number nor \"-\"", Quoted(word)),
-            Why::NoTester(word) => write!(f, "{} is not a tester", Quoted(word)),
-            Why::TooMany(word) => write!(f, "{} is one word too many", Quoted(word)),
-            Why::TooFew(call, missing) => write!(f, "{call:?} wants {missing}"),
-            Why::NoMemory => f.write_str("no memory is left for the line"),
-        }
     }
 }
