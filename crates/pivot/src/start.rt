@@ -1,26 +1,21 @@
 //! The tableau at the start: the variables are nonbasic at their lower ends, and the rows are basic.
 //! The tables have a fixed size, since nothing here takes the heap.
-ghost use Rattle.std.specs.Prelude.{◌≡◌, ◌+◌, ◌-◌, ◌<◌, ◌≤◌, true, ◌++◌, map, length, take, replicate, pos};
+ghost use Rattle.std.specs.Prelude.{◌≡◌, ◌+◌, ◌<◌, ◌≤◌, true, ◌++◌, map, length, take};
 ghost use Rattle.tableau.specs.Lines.{start_line, start_lines};
 ghost use Rattle.pivot.specs.Shapes.{LineOk, LinesOk, seen};
 ghost use Rattle.tableau.specs.Tableau.{span_ends};
 ghost use Rattle.problems.specs.View.{box_of, rows_of};
 ghost use Rattle.problems.specs.Whole.{all_within};
-ghost use Rattle.testers.specs.Halving.{lowers};
 
 use problems::problem::Problem;
 use problems::quantity::{MOST, QUANTITIES, RowEnds, Span};
+use problems::table::padded;
 use tableau::line::Line;
 
-// What stands past the last line, and past the last end.
+// What stands past the last line.
 pub(crate) const NO_LINE: Line = Line {
     basic: 0,
     nums: [0; QUANTITIES],
-};
-
-const NO_ENDS: RowEnds = RowEnds {
-    lower: None,
-    upper: None,
 };
 
 // The line of row i of m: its value is its quantity.
@@ -31,8 +26,7 @@ fn first_line(coefs: &[i64], m: usize, i: usize) -> Line
     ensures value { seen (length coefs.now + m) result ≡ start_line m i coefs.now }
     ensures ok { LineOk (length coefs.now + m) result }
 {
-    let mut nums = [0; QUANTITIES];
-    nums[..coefs.len()].copy_from_slice(coefs);
+    let mut nums = padded(coefs, 0);
     let basic = coefs.len() + i;
     nums[basic] = -1;
     Line { basic, nums }
@@ -51,37 +45,6 @@ pub(crate) fn first_lines(problem: &Problem) -> [Line; MOST]
     lines
 }
 
-// What `of` makes of each variable, and `past` after the last.
-fn table<T: Copy, F: Fn(Span) -> T>(vars: &[Span], past: T, of: F) -> [T; QUANTITIES]
-    requires few { length vars.now ≤ 12 }
-    requires callable { F.IsAlwaysCallable of }
-    ensures { (makes : Span → T) → ((s : Span) (x : T) → F.post of s x → x ≡ makes s) → result ≡ map makes vars.now ++ replicate (24 - length vars.now) past }
-{
-    let mut all = [past; QUANTITIES];
-    for (v, s) in vars.iter().enumerate() {
-        all[v] = of(*s);
-    }
-    all
-}
-
-// The lower ends of the variables, and 0 for each row.
-pub(crate) fn first_values(vars: &[Span]) -> [i64; QUANTITIES]
-    requires { length vars.now ≤ 12 }
-    ensures { result ≡ lowers vars.now ++ replicate (24 - length vars.now) (pos 0) }
-{
-    table(vars, 0, |s| s.lower)
-}
-
-// The ends of a variable, both present.
-fn span_ends(s: Span) -> RowEnds
-    ensures { result ≡ span_ends s }
-{
-    RowEnds {
-        lower: Some(s.lower),
-        upper: Some(s.upper),
-    }
-}
-
 // The ends of all quantities.
 pub(crate) fn all_ends(vars: &[Span], rows: &[RowEnds]) -> [RowEnds; QUANTITIES]
     requires variables { length vars.now ≤ 12 }
@@ -89,7 +52,10 @@ pub(crate) fn all_ends(vars: &[Span], rows: &[RowEnds]) -> [RowEnds; QUANTITIES]
     ensures { take (length vars.now + length rows.now) result ≡ map span_ends vars.now ++ rows.now }
 {
     let n = vars.len();
-    let mut all = table(vars, NO_ENDS, span_ends);
+    let mut all = [RowEnds::FREE; QUANTITIES];
+    for (v, s) in vars.iter().enumerate() {
+        all[v] = RowEnds::from(*s);
+    }
     all[n..n + rows.len()].copy_from_slice(rows);
     all
 }

@@ -11,11 +11,12 @@ ghost use Rattle.problems.specs.View.{box_of, rows_of};
 ghost use Rattle.testers.specs.Told.{answer_of};
 
 use super::board::Board;
-use super::start::{all_ends, first_lines, first_values};
+use super::start::{all_ends, first_lines};
 use problems::problem::Problem;
+use problems::quantity::QUANTITIES;
 use tableau::run::Stop;
 use testers::answer::Answer;
-use testers::halving::{all_fixed, halve};
+use testers::halving::{all_fixed, halve, lowers};
 use testers::leaf::Leaf;
 use testers::middle::middle_split;
 
@@ -39,7 +40,7 @@ fn by_pivots(problem: &Problem, limit: u32) -> Answer
     let m = problem.rows();
     let k = problem.variables() + m;
     let ends = all_ends(problem.vars(), problem.row_ends());
-    let mut values = first_values(problem.vars());
+    let mut values = lowers::<QUANTITIES>(problem.vars());
     let mut lines = first_lines(problem);
     let mut board = Board {
         lines: &mut lines[0..m],
