@@ -6,7 +6,7 @@ ghost use Rattle.problems.specs.Whole.{all_within};
 use super::refutation::Refutation;
 use testers::leaf::Leaf;
 
-// The first byte of an entry is the number of its kind.
+// The first byte of an entry is the number of its kind. All that is cast to a byte here is below 256.
 #[derive(Clone, Copy, PartialEq, Eq, Debug)]
 enum Kind {
     Split = 1,

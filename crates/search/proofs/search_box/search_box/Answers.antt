@@ -48,7 +48,6 @@ returns g c =
     let bytes' = c.run-found.new.written.bytes.now in
     let F = search_box m (rows_of p) (box_of p) boxes in
     let same_bytes = c.over-written.ensures.value.0 in
-    let end : c.bytes-1.given.0 ≡ bytes' = search rules in
     let is : found_of p.ends.vars.n bytes' f ≡ F = ran.answer in
     let long : length bytes' ≡ length bytes = ran.long ∙ ap (λ (xs : List ℕ). length xs) same_bytes in
     let fits : f.bytes ≤ length bytes' = omega (arith, long, ran.room, room_for c.args.budget (length bytes) (length path) boxes h) in
@@ -56,14 +55,13 @@ returns g c =
     let blanks = subst (λ (os : List OpenSplit). Blanked os f.deepest st.slots.now st.len) c.over-stack.ensures.value.0 ran.blanks in
     let cleared = all_blank path st.slots.now c.clear.new.self.slots.now f.deepest st.len blanks c.clear.ensures.after.0
     ∙ ap (λ (x : Result Found Refused). path_after x path) (ap Ok is ∙ sym a) in
-    let found = ap (λ (xs : List ℕ). found_of p.ends.vars.n xs f) end ∙ is in
     record {
-      answer = ap (λ (x : Found). Ok x) found ∙ sym a;
+      answer = ap (λ (xs : List ℕ). Ok (found_of p.ends.vars.n xs f)) (search rules) ∙ ap (λ (x : Found). Ok x) is ∙ sym a;
       count = sym (length-take-le f.bytes bytes' fits) ∙ ap (λ (x : Found). length x.bytes) is ∙ ap bytes_written (sym a);
-      written = end ∙ front_and_rest bytes bytes' f.bytes long (ran.kept ∙ ap (drop f.bytes) same_bytes)
+      written = search rules ∙ front_and_rest bytes bytes' f.bytes long (ran.kept ∙ ap (drop f.bytes) same_bytes)
           ∙ ap (λ (x : Result Found Refused). record_after x bytes) (ap Ok is ∙ sym a);
       path = search (rules, cleared);
       same = ran.same;
-      truthful = subst (λ (x : Found). Truthful m (rows_of p) (box_of p) (nat_abs c.args.budget) x) (sym found)
+      truthful = subst (λ (x : Found). Truthful m (rows_of p) (box_of p) (nat_abs c.args.budget) x) (sym (ap (λ (xs : List ℕ). found_of p.ends.vars.n xs f) (search rules) ∙ is))
           (subst (λ k. Truthful m (rows_of p) (box_of p) k F) (boxes_are c.args.budget (length bytes) (length path) boxes h) (truthful m (g.met.T.Tester.lawful c.args.tester.now) (rows_of p) (box_of p) (proper p) boxes));
     }
