@@ -43,11 +43,6 @@ within_at n (a ∷ av) s (suc i) = within_at n av (and_parts _ _ s).1 i
 pub abs_add : (a b : ℤ) → nat_abs (a +ℤ b) ≤ nat_abs a + nat_abs b
 abs_add a b = omega (arith, ints)
 
-pub within_drop : (n : ℕ) (a : List ℤ) (i : ℕ) → all_within n a ≡ true → all_within n (drop i a) ≡ true
-within_drop n a zero s = s
-within_drop n [] (suc i) s = refl
-within_drop n (a ∷ av) (suc i) s = within_drop n av i (and_parts _ _ s).1
-
 pub within_from : (n : ℕ) (a : List ℤ) (i : ℕ) → all_within n (drop i a) ≡ true → nat_abs (get_or a i (pos 0)) ≤ n
 within_from n [] i s = omega arith
 within_from n (a ∷ av) zero s = leb-true _ _ (and_parts _ _ s).0

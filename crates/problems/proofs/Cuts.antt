@@ -1,11 +1,12 @@
 -- A split of a variable in the code's table is the split of the list.
-use Rattle.std.proofs.Common.{◌≡◌, ℕ, zero, suc, ◌<◌, ◌≤◌, Bool, true, false, cond, ◌&&◌, Some, None, List, [], ◌∷◌, length, get_or, set, ℤ, pos, ◌+ℤ◌, ◌<ℤ◌, sym, refl, ap, ◌∙◌, le_of_suc-le-suc, not-suc-le-zero, arith}
+use Rattle.std.proofs.Common.{◌≡◌, ℕ, zero, suc, ◌<◌, ◌≤◌, Bool, true, false, cond, ◌&&◌, Some, None, List, [], ◌∷◌, length, get_or, take, set, ℤ, pos, ◌+ℤ◌, ◌<ℤ◌, sym, refl, ap, ◌∙◌, le_of_suc-le-suc, not-suc-le-zero, arith, length-set}
 use lib.Signed.{le_z, lt_z}
 use Rattle.std.specs.Bool.{then_some}
 use Rattle.std.proofs.lemmas.Option.{cond_some}
 use Rattle.problems.specs.declared.quantity.Span.{Span}
 use Rattle.problems.specs.declared.vars.Vars.{Vars}
 use Rattle.problems.specs.Box.{nowhere, splits, low, high}
+use Rattle.problems.specs.Ranges.{spans_proper}
 use Rattle.problems.specs.View.{vars_in}
 use Rattle.problems.proofs.Views.{vars_long}
 use Rattle.std.proofs.lemmas.Bool.{and_parts}
@@ -67,3 +68,8 @@ cut_under v k ss s e =
 
 pub among : (t : Vars) (v : ℕ) (k : ℤ) → splits v k (vars_in t) ≡ true → v < t.n
 among t v k h = let r = splits_among v k (vars_in t) h in rw (vars_long t) at r
+
+-- a table with one span changed keeps its facts, if what it holds is proper
+pub facts_kept : (t : Vars) (v : ℕ) (s : Span) (ss : List Span) → take t.n (set t.spans v s) ≡ ss → spans_proper ss ≡ true
+    → (t.n ≤ 12) × (length (set t.spans v s) ≡ 12) × (spans_proper (take t.n (set t.spans v s)) ≡ true)
+facts_kept t v s ss e p = (t.few, simp length-set t.long, ap spans_proper e ∙ p)

@@ -1,10 +1,10 @@
 -- A problem's lists, and that they are proper.
-use Rattle.std.proofs.Common.{◌≡◌, ℕ, zero, suc, ◌<◌, ◌≤◌, true, eqb, List, [], ◌∷◌, map, length, get_or, take, ℤ, sym, refl, ap, ◌∙◌, le_of_suc-le-suc, not-suc-le-zero}
+use Rattle.std.proofs.Common.{◌≡◌, ℕ, zero, suc, ◌<◌, ◌≤◌, true, eqb, List, [], ◌∷◌, map, length, get_or, take, ℤ, sym, refl, ◌∙◌, le_of_suc-le-suc, not-suc-le-zero}
 use mathlib.Core.Bool.{Bool-set}
 use mathlib.Core.HLevel.{is_prop→PathP}
 use native.Mathlib.Bridge.{le_prop}
 use native.Mathlib.Nat.{ℕ_set}
-use Rattle.std.proofs.lemmas.List.{length-map, length-take-le, get_or-take, get_or_past, get_or-map}
+use Rattle.std.proofs.lemmas.List.{length-map, length-take-le}
 use Rattle.problems.specs.declared.quantity.Row.{Row}
 use Rattle.problems.specs.declared.vars.Vars.{Vars}
 use Rattle.problems.specs.declared.problem.Problem.{Problem}
@@ -31,16 +31,6 @@ vars_same a b p q = λ i. record {
 
 abbrev pub no_row : Row
 no_row = record { coefs = [] }
-
--- the row at i
-pub row_at : (rows : List Row) (n m i : ℕ) → i < m → m ≤ length rows → get_or (map (λ (r : Row). take n r.coefs) (take m rows)) i [] ≡ take n (get_or rows i no_row).coefs
-row_at rows n m i h k =
-    let l : i < length (take m rows) = rw (length-take-le m rows k) h in
-    get_or-map (λ (r : Row). take n r.coefs) (take m rows) i no_row [] l ∙ ap (λ (r : Row). take n r.coefs) (get_or-take m rows i no_row h)
-
-pub no_row_at : (rows : List Row) (n m i : ℕ) → m ≤ i → m ≤ length rows → get_or (map (λ (r : Row). take n r.coefs) (take m rows)) i [] ≡ []
-no_row_at rows n m i h k =
-    get_or_past (map (λ (r : Row). take n r.coefs) (take m rows)) i [] (rw (length-map (take m rows) (λ (r : Row). take n r.coefs), length-take-le m rows k) h)
 
 pub row_long : (rows : List Row) (i : ℕ) → rows_proper 12 (map coefs_of rows) ≡ true → i < length rows → length (get_or rows i no_row).coefs ≡ 12
 row_long [] i h k = absurd (not-suc-le-zero k)

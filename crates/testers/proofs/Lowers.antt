@@ -1,6 +1,6 @@
 -- The lower ends, one variable at a time and as a table.
 use Rattle.std.proofs.Common.{◌≡◌, Some, None, Option, ℕ, zero, suc, subst, le_of_suc-le-suc, not-suc-le-zero, ◌+◌, ◌-◌, ◌<◌, ◌≤◌, List, [], ◌∷◌, ◌++◌, length, get_or, take, set, replicate, ℤ, pos, sym, refl, ap, ◌∙◌, arith}
-use Rattle.std.proofs.lemmas.List.{length-take-le, set_at, take_more, append_assoc, take_all, ext_get_or, get_or-replicate, length-replicate}
+use Rattle.std.proofs.lemmas.List.{length-take-le, set_at, take_more, append_assoc, take_all, take_at, ext_get_or, get_or-replicate, length-replicate}
 use denote.Ref.{Bor}
 use denote.Param.Members.{Mut, Called}
 use Rattle.std.specs.Array.{IsFromFnResultFrom}
@@ -40,6 +40,10 @@ pub lowers_end : (c : ℕ) (ss : List Span) (i : ℕ) → length ss ≤ i → i 
 lowers_end c ss i h k =
     let e : i ≡ length ss = omega arith in
     ap (λ (x : List Span). lowers x ++ replicate (c - i) (pos 0)) (take_all i ss h) ∙ ap (λ n. lowers ss ++ replicate (c - n) (pos 0)) e
+
+-- the point that the list tells of n variables
+pub lowers_say : (c : ℕ) (ss : List Span) (n : ℕ) → length ss ≡ n → take n (lowers ss ++ replicate (c - length ss) (pos 0)) ≡ lowers ss
+lowers_say c ss n e = take_at (lowers ss) (replicate (c - length ss) (pos 0)) n (length_lowers ss ∙ e)
 
 -- ---- a table of c places, made place by place
 

@@ -28,10 +28,10 @@ abbrev pub reply_to : Standing → Call → Result Told Stop
 reply_to s (New n ends) = telling (λ _. done) (begins s n (vec_items ends)).reply
 reply_to s (Row coefs ends) = telling numbered (adds_row s (vec_items coefs) ends).reply
 reply_to s Open = telling (λ _. done) (opens s).reply
-reply_to s (Ask budget) = telling found (answered s.problem budget)
+reply_to s (Ask tester budget) = telling found (answered s.problem budget)
 
 abbrev pub desk_after : Standing → Call → Standing
 desk_after s (New n ends) = (begins s n (vec_items ends)).after
 desk_after s (Row coefs ends) = (adds_row s (vec_items coefs) ends).after
 desk_after s Open = (opens s).after
-desk_after s (Ask budget) = s
+desk_after s (Ask tester budget) = s

@@ -3,7 +3,7 @@ ghost use Rattle.std.specs.Prelude.{◌≡◌, ◌≤◌, length};
 ghost use Rattle.zimborae.specs.Answer.{desk_after, reply_to, telling, told_by};
 ghost use Rattle.zimborae.specs.Desk.{standing};
 
-use super::call::Call;
+use super::call::{Call, Pile};
 use super::desk::Desk;
 use super::reply::Reply;
 use super::stop::Stop;
@@ -33,6 +33,9 @@ pub(crate) fn answer<'a>(
             desk.open()?;
             Ok(Reply::Done)
         }
-        Call::Ask { budget } => Ok(Reply::Found(desk.ask(*budget, bytes, path)?)),
+        Call::Ask {
+            tester: Pile::Halving,
+            budget,
+        } => Ok(Reply::Found(desk.ask(*budget, bytes, path)?)),
     }
 }

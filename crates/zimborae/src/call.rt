@@ -7,13 +7,19 @@ use super::words::{end, number};
 use problems::quantity::{RowEnds, Span};
 use std::alloc::{AllocError, Global};
 
+/// Whom to ask.
+#[derive(Clone, Copy, PartialEq, Eq, Debug)]
+pub enum Pile {
+    Halving,
+}
+
 /// A call with what it was given.
 #[derive(Drop)]
 pub enum Call {
     New { n: i64, ends: Vec<Span> },
     Row { coefs: Vec<i64>, ends: RowEnds },
     Open,
-    Ask { budget: i64 },
+    Ask { tester: Pile, budget: i64 },
 }
 
 // The numbers that the words write.
@@ -78,7 +84,10 @@ fn read_ask<'a>(words: &[&'a str]) -> Result<Call, Why<'a>> {
     if let [word, ..] = rest {
         return Err(Why::TooMany(*word));
     }
-    Ok(Call::Ask { budget })
+    Ok(Call::Ask {
+        tester: Pile::Halving,
+        budget,
+    })
 }
 
 /// The call that the line is.
