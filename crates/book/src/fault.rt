@@ -6,7 +6,8 @@ ghost use Rattle.book.specs.Fault.{AnswersAre, each, fault, judged, placed, repl
 
 use problems::refusal::{Refusal, Refused};
 
-// Refuses at the index, where there is one; places are counted from 1.
+// Refuses at the index, where there is one; places are counted from 1. A place fits, as each of these asks, so the
+// casts keep it.
 pub(crate) fn refuse_at(index: Option<usize>, why: Refusal) -> Result<(), Refused>
     requires { ForSome index (λ i. i + 1 < 2 ^ 63) }
     ensures { result ≡ replied tt (option_map (placed why) index) }

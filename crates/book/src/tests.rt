@@ -10,33 +10,25 @@ const WIDE: Span = Span {
     upper: 100_000,
 };
 
-const FREE: RowEnds = RowEnds {
-    lower: None,
-    upper: None,
-};
-
 fn span(lower: i64, upper: i64) -> Span {
     Span { lower, upper }
 }
 
 fn ends(lower: i64, upper: i64) -> RowEnds {
-    RowEnds {
-        lower: Some(lower),
-        upper: Some(upper),
-    }
+    RowEnds::from(span(lower, upper))
 }
 
 // Two variables and the row 1 2.
 fn two_variables_and_a_row(rt: &impl Abort) -> Result<Draft, Fail> {
     let mut draft = Draft::first();
     draft.new(2, &[WIDE, WIDE])?;
-    assert_eq!(rt; draft.add_row(&[1, 2], FREE), Ok(3));
+    assert_eq!(rt; draft.add_row(&[1, 2], RowEnds::FREE), Ok(3));
     Ok(draft)
 }
 
 // The row after the two variables and the row, so a refused call before it changed nothing.
 fn next_row_is_four(rt: &impl Abort, draft: &mut Draft) {
-    assert_eq!(rt; draft.add_row(&[2, 1], FREE), Ok(4));
+    assert_eq!(rt; draft.add_row(&[2, 1], RowEnds::FREE), Ok(4));
 }
 
 fn new_refused(
@@ -79,10 +71,10 @@ fn new_is_refused_by_its_first_fault(rt: HostRuntime) -> Result<(), Fail> {
 
 #[test]
 fn row_is_refused_by_its_first_fault(rt: HostRuntime) -> Result<(), Fail> {
-    row_refused(&rt, &[101], FREE, Refusal::Length, 0)?;
+    row_refused(&rt, &[101], RowEnds::FREE, Refusal::Length, 0)?;
     row_refused(&rt, &[1, 2, 3], ends(5, 1), Refusal::Length, 0)?;
     row_refused(&rt, &[100, -101], ends(300_000_000, 0), Refusal::Range, 2)?;
-    row_refused(&rt, &[101, 101], FREE, Refusal::Range, 1)?;
+    row_refused(&rt, &[101, 101], RowEnds::FREE, Refusal::Range, 1)?;
     row_refused(
         &rt,
         &[1, 2],
@@ -119,15 +111,15 @@ fn widest_numbers_are_accepted(rt: HostRuntime) {
         draft.add_row(&[100, -100, 0], ends(-200_000_000, 200_000_000)),
         Ok(4)
     );
-    assert_eq!(rt; draft.add_row(&[0, 0, 0], FREE), Ok(5));
+    assert_eq!(rt; draft.add_row(&[0, 0, 0], RowEnds::FREE), Ok(5));
 }
 
 #[test]
 fn first_draft_has_one_variable_and_new_begins_afresh(rt: HostRuntime) -> Result<(), Fail> {
     let mut draft = Draft::first();
-    assert_eq!(rt; draft.add_row(&[7], FREE), Ok(2));
+    assert_eq!(rt; draft.add_row(&[7], RowEnds::FREE), Ok(2));
     draft.new(1, &[WIDE])?;
-    assert_eq!(rt; draft.add_row(&[7], FREE), Ok(2));
+    assert_eq!(rt; draft.add_row(&[7], RowEnds::FREE), Ok(2));
     let problem = draft.open();
     assert_eq!(rt; problem.variables(), 1);
     assert_eq!(rt; problem.rows(), 1);
@@ -138,7 +130,7 @@ fn first_draft_has_one_variable_and_new_begins_afresh(rt: HostRuntime) -> Result
 fn thirteenth_row_is_refused_after_its_own_faults(rt: HostRuntime) {
     let mut draft = Draft::first();
     for i in 1..13usize {
-        assert_eq!(rt; draft.add_row(&[i as i64], FREE), Ok(i + 1));
+        assert_eq!(rt; draft.add_row(&[i as i64], RowEnds::FREE), Ok(i + 1));
     }
     let crossing = Refused {
         why: Refusal::Cross,
@@ -149,11 +141,11 @@ fn thirteenth_row_is_refused_after_its_own_faults(rt: HostRuntime) {
         why: Refusal::Repeat,
         place: 12,
     };
-    assert_eq!(rt; draft.add_row(&[12], FREE), Err(repeat));
+    assert_eq!(rt; draft.add_row(&[12], RowEnds::FREE), Err(repeat));
     let full = Refused {
         why: Refusal::Full,
         place: 12,
     };
-    assert_eq!(rt; draft.add_row(&[13], FREE), Err(full));
+    assert_eq!(rt; draft.add_row(&[13], RowEnds::FREE), Err(full));
     assert_eq!(rt; draft.open().rows(), 12);
 }

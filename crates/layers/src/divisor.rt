@@ -55,7 +55,8 @@ fn fixed_part(row: &RowInBox) -> i64
     ensures value { result ≡ fixed_part row.now.coefs.now row.now.vars.now }
     ensures small { unsigned_abs result ≤ 120000000 }
 {
-    // A sum of its own: one that takes the term as a closure would ask its callers for the term's bounds.
+    // Not one function with `RowInBox::range`: a sum that takes its term as a closure would ask its callers for
+    // the term's bounds.
     let mut sum = 0;
     for (a, s) in row.coefs.iter().zip(row.vars) {
         sum += fixed_term(*a, *s);
@@ -70,6 +71,7 @@ fn no_multiple(g: u64, s: Span) -> bool
     requires upper { unsigned_abs s.upper ≤ 1000000000 }
     ensures { result ≡ no_multiple g s.lower s.upper }
 {
+    // At most 100, so the cast keeps it, as in `missed_leaf`.
     let g = g as i64;
     g * s.upper.div_euclid(g) < s.lower
 }
@@ -79,7 +81,7 @@ fn misses_row(g: u64, row: &RowInBox) -> bool
     requires divisor { g ≤ 100 }
     ensures { result ≡ misses g (fixed_part row.now.coefs.now row.now.vars.now) row.now.ends.lower row.now.ends.upper }
 {
-    // One pattern names both ends; a zip would name them .0 and .1.
+    // A zip whose closure takes the differences is not proved: that they stay within 64 bits stays open.
     match (row.ends.lower, row.ends.upper) {
         (Some(lower), Some(upper)) => {
             let part = fixed_part(row);
@@ -141,13 +143,12 @@ mod tests {
     // The row and the divisor that miss, in a problem of this one row with both ends at the value.
     fn missed(vars: &[Span], coefs: &[i64], value: i64) -> Option<(usize, usize)> {
         let mut problem = Problem::over(vars)?;
-        let end = Some(value);
         problem.add_row(
             coefs,
-            RowEnds {
-                lower: end,
-                upper: end,
-            },
+            RowEnds::from(Span {
+                lower: value,
+                upper: value,
+            }),
         );
         match missed_row(&problem)? {
             Leaf::Divisor { row, g } => Some((row, g)),

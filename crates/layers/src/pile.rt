@@ -11,8 +11,8 @@ use problems::problem::Problem;
 use testers::answer::Answer;
 use testers::tester::Tester;
 
-/// A tester, bare or under one divisor layer. Which one is chosen when it runs, and with no heap a
-/// boxed tester cannot be handed out.
+/// A tester, bare or under one divisor layer.
+// Which of the two it is, is known only when the program runs; a boxed tester would need the heap.
 #[derive(Drop)]
 pub enum Over<T> {
     Bare(T),

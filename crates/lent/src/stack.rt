@@ -5,6 +5,7 @@ ghost use Rattle.lent.specs.Stacks.{Cleared, Popped, Pushed};
 use super::entry::Entry;
 
 /// The first `len` slots are in use, the latest entry last.
+// Lent memory with its count: nothing here takes the heap.
 #[derive(Drop)]
 pub struct Stack<'a, E> {
     pub(crate) slots: &'a mut [E],

@@ -11,7 +11,8 @@ use problems::quantity::RowEnds;
 use tableau::fraction::Fraction;
 use tableau::line::Line;
 
-// The lines, the end at which each nonbasic quantity sits, with 0 for a basic one, and the ends of all quantities.
+/// The lines; for each quantity the end at which it sits, 0 for a basic one; and the ends of all quantities.
+// Values and ends stand apart: the values move, the ends stay, and sums go over the values alone.
 #[derive(Drop)]
 pub(crate) struct Board<'a> {
     pub(crate) lines: &'a mut [Line],

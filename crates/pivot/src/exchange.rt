@@ -54,6 +54,7 @@ impl Board<'_> {
         let lines = &*self.lines;
         let t = self.turn(&lines[place], q);
         let mut next = [NO_LINE; MOST];
+        // No lemma tells what a `zip` over `iter_mut` has written, so the table is written by its index.
         for (j, line) in lines.iter().enumerate() {
             next[j] = if j == place {
                 t

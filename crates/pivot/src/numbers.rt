@@ -47,7 +47,7 @@ fn reduce(row: &mut [i64])
 {
     let g = common(row);
     if g > UNIT {
-        // It fits, as a divisor of a number of the row; `try_from` would ask for a way out that no row takes.
+        // It fits, as a divisor of a number of the row; `try_from` would need an answer to a failure that cannot come.
         divide(row, g as i64);
     }
 }
@@ -61,7 +61,7 @@ fn mix(row: &mut [i64], p: i64, t: &[i64], c: i64)
     requires multiple { unsigned_abs c ≤ 1000000000 }
     ensures { row.new ≡ add (scale p row.old) (scale c t.now) }
 {
-    // A zip over `iter_mut` would not tell what it wrote.
+    // No lemma tells what a `zip` over `iter_mut` has written, so t is read by its index.
     for (i, x) in row.iter_mut().enumerate() {
         *x = p * *x + c * t[i];
     }
@@ -98,7 +98,7 @@ pub(crate) fn dot(a: &[i64], x: &[i64]) -> i64
     sum
 }
 
-// Turns every sign.
+// Turns every sign. `divide` is a loop of another operator: one for both would take it as a closure, and be longer.
 pub(crate) fn negate(row: &mut [i64])
     requires { all_within 1000000000 row.old ≡ true }
     ensures { row.new ≡ scale (negsuc 0) row.old }
@@ -108,7 +108,8 @@ pub(crate) fn negate(row: &mut [i64])
     }
 }
 
-// Whether every number of the row is of the size that a line may have.
+// Whether every number of the row is of the size that a line may have; coefficients have another limit, and a test
+// of their own.
 pub(crate) fn small(row: &[i64]) -> bool
     ensures { result ≡ all_within 1000000000 row.now }
 {

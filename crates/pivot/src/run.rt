@@ -45,7 +45,7 @@ impl Board<'_> {
             .map_or(Step::Stuck(f), |q| Step::Turn(f, q))
     }
 
-    // Takes q in for the quantity that leaves; refused where a number would be too large.
+    // Takes q in for the quantity that leaves; false, and the board stays, where a number would be too large.
     fn pivot(&mut self, f: Violation, q: usize) -> bool
         requires standing { f.place < length self.old.lines.now }
         requires leaves { f.basic < length self.old.values.now }
@@ -71,6 +71,7 @@ impl Board<'_> {
         ensures left { LeftAt (length self.new.lines.now) result (shown (length self.old.values.now) self.new.values.now self.new.lines.now) (runs limit self.old.ends.now (length self.old.values.now) (shown (length self.old.values.now) self.old.values.now self.old.lines.now)).tableau }
         ensures long { length self.new.values.now ≡ length self.old.values.now }
     {
+        // It looks once more than it pivots, so what is left is counted and no range is gone through.
         let mut rest = limit;
         loop {
             match self.look() {

@@ -12,7 +12,7 @@ use problems::quantity::{MOST, QUANTITIES, Side};
 use tableau::fraction::Fraction;
 use testers::answer::Answer;
 
-// The remainder and the quotient by the same d: two questions of one operator each.
+// Whether there is a remainder, and the quotient: one operator each, so one function for both would be no shorter.
 
 // Whether no fraction is left.
 fn whole(f: Fraction) -> bool
@@ -43,6 +43,7 @@ impl Board<'_> {
         requires { v < length self.now.values.now }
         ensures { result ≡ value v self.now.values.now (map (seen (length self.now.values.now)) self.now.lines.now) }
     {
+        // A closure of `map_or` would not know that the line it gets is one of the board's.
         match self.lines.iter().find(|line| line.basic == v) {
             Some(line) => self.fraction_of(line),
             None => Fraction {

@@ -53,6 +53,7 @@ pub(crate) fn all_ends(vars: &[Span], rows: &[RowEnds]) -> [RowEnds; QUANTITIES]
 {
     let n = vars.len();
     let mut all = [RowEnds::FREE; QUANTITIES];
+    // No lemma tells what a `zip` over `iter_mut` has written, so the table is written by its index.
     for (v, s) in vars.iter().enumerate() {
         all[v] = RowEnds::from(*s);
     }

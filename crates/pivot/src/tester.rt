@@ -24,6 +24,7 @@ impl Pivot {
     pub fn new(limit: i64) -> Result<Pivot, Refused>
         ensures value { limit_of result ≡ granted_limit limit }
     {
+        // One test of both ends: a chain of `ok`, `filter` and `ok_or` would be longer.
         match u32::try_from(limit) {
             Ok(pivots) if limit <= MOST_PIVOTS => Ok(Pivot { limit: pivots }),
             _ => Err(Refused {

@@ -12,7 +12,7 @@ impl Vars {
         n: 0,
     };
 
-    /// The same, with its value told.
+    /// The same: a constant has no contract, so this tells its value.
     pub fn none() -> Vars
         ensures { result ≡ no_vars }
     {

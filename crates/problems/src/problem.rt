@@ -6,7 +6,8 @@ use super::ends::Ends;
 use super::quantity::{MOST, Row};
 
 /// The rows' coefficients and the ends of all quantities.
-// Coefficients and ends of a row stand apart: the ends make the box, which halves change, and the rows stay.
+// A row's coefficients and its ends stand apart: the ends belong to the box, which a split changes, and the
+// coefficients stay. Both tables are fixed, as in `Vars`; the count stands with the ends.
 #[derive(Clone, Copy)]
 pub struct Problem {
     pub(crate) rows: [Row; MOST],

@@ -23,7 +23,7 @@ pub struct Span {
 }
 
 impl Span {
-    // One point, which stands where there is no variable.
+    // The point 0, which also stands where there is no variable.
     pub(crate) const NOWHERE: Span = Span { lower: 0, upper: 0 };
 }
 

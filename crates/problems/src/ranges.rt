@@ -15,7 +15,7 @@ pub const VARIABLE_END: u64 = 100_000;
 /// The largest size of a row's end.
 pub const ROW_END: u64 = 200_000_000;
 
-// Each of these tests is one comparison: one for all three would be as long at each call.
+// Three tests of one comparison each: a single test that took the limit would be no shorter at its calls.
 
 /// Whether a coefficient is in its range.
 pub fn is_coefficient(a: i64) -> bool
@@ -59,9 +59,8 @@ impl RowEnds {
     pub fn cross(self) -> bool
         ensures value { result ≡ not (in_order self.lower self.upper) }
     {
-        match (self.lower, self.upper) {
-            (Some(lower), Some(upper)) => lower > upper,
-            _ => false,
-        }
+        self.lower
+            .zip(self.upper)
+            .is_some_and(|(lower, upper)| lower > upper)
     }
 }

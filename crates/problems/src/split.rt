@@ -40,7 +40,7 @@ impl Span {
 }
 
 impl Vars {
-    // The ends of the variable, where they are cut.
+    // The ends of the variable that is cut; none unless lower end ≤ k < upper end.
     fn cut_span(&self, cut: (usize, i64)) -> Option<Span>
         ensures { result ≡ (if splits cut.0 cut.1 (vars_in self.now) then Some (slice_index_or (vars_in self.now) cut.0 nowhere) else None) }
     {
@@ -48,7 +48,7 @@ impl Vars {
         span.splits_at(cut).then_some(*span)
     }
 
-    // The ends with others for variable v.
+    // The same ends, but these for variable v.
     fn with(&self, v: usize, span: Span) -> Vars
         requires within { v < self.now.n }
         requires proper { spans_proper (slice_set (vars_in self.now) v span) ≡ true }

@@ -1,7 +1,7 @@
 //! Tables of a fixed size, filled from the front.
 ghost use Rattle.std.specs.Prelude.{◌≡◌, ◌-◌, ◌++◌, length, take, replicate};
 
-/// A table that begins with these, as many as it has room for, and goes on with the blank.
+/// A table that begins with as many of these as it has room for, and goes on with the blank.
 pub fn padded<T: Copy, const N: usize>(front: &[T], blank: T) -> [T; N]
     ensures value { result ≡ take N front.now ++ replicate (N - length front.now) blank }
 {

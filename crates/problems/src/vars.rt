@@ -6,7 +6,7 @@ use super::quantity::{MOST, Span};
 
 /// The ends of the first `n` variables.
 // A fixed table with its count: nothing here takes the heap, and the kit's `ArrayVec` is neither `Copy` nor
-// made in a constant, and an open split needs both.
+// made in a constant, and what is kept on a stack in lent memory must be both.
 #[derive(Clone, Copy)]
 pub struct Vars {
     pub(crate) spans: [Span; MOST],

@@ -6,6 +6,7 @@ use problems::quantity::MOST;
 #[derive(Clone, Copy, PartialEq, Eq, Debug)]
 pub enum Verdict {
     /// A plan of the box: a number for each variable; what stands past the last one means nothing.
+    // A fixed table: nothing here takes the heap.
     Plan([i64; MOST]),
     /// The box has no plan; these of its ends were used that no split replaced.
     None(Uses),

@@ -12,6 +12,7 @@ use super::uses::{Sides, Uses};
 use problems::problem::Problem;
 use problems::quantity::{MOST, QUANTITIES, Span};
 use std::array;
+use testers::halving::is_fixed;
 use testers::leaf::Leaf;
 
 // The upper end for a positive multiplier, the lower end for a negative one.
@@ -37,7 +38,7 @@ fn fixed_sides(coefs: &[i64], vars: &[Span], i: usize) -> Sides
     requires { length coefs.now ≡ length vars.now }
     ensures { (side : Side) → side_in side result ≡ by_fixed coefs.now vars.now side i }
 {
-    both_if(i < coefs.len() && vars[i].lower == vars[i].upper && coefs[i] != 0)
+    both_if(i < coefs.len() && is_fixed(vars[i]) && coefs[i] != 0)
 }
 
 // The ends of a variable that are still those of the root.

@@ -6,7 +6,7 @@ ghost use Rattle.problems.specs.Whole.{all_within};
 use super::refutation::Refutation;
 use testers::leaf::Leaf;
 
-// The first byte of an entry is the number of its kind. All that is cast to a byte here is below 256.
+// The first byte of an entry is the number of its kind.
 #[derive(Clone, Copy, PartialEq, Eq, Debug)]
 enum Kind {
     Split = 1,
@@ -15,6 +15,7 @@ enum Kind {
 }
 
 /// The record so far: lent bytes, the first `len` of which are written.
+// Lent memory with its count: nothing here takes the heap.
 #[derive(Drop)]
 pub(crate) struct Record<'a> {
     pub(crate) bytes: &'a mut [u8],
@@ -71,6 +72,7 @@ impl<'a> Record<'a> {
         ensures { Wrote (split_bytes cut.0 cut.1) self.old self.new }
     {
         let (variable, k) = cut;
+        // A variable is below 12, so the cast keeps it.
         self.put(&[Kind::Split as u8, variable as u8 + 1]);
         self.put(&big_endian(k));
     }
@@ -88,6 +90,7 @@ impl<'a> Record<'a> {
         }
     }
 
+    // Writes a leaf that is a sum.
     fn write_sum(&mut self, ms: &[i64])
         requires few { length ms.now ≤ 24 }
         requires small { all_within 1000000000 ms.now ≡ true }
@@ -99,6 +102,7 @@ impl<'a> Record<'a> {
         self.write_multipliers(ms);
     }
 
+    // Writes a leaf that is a divisor, whose row is counted from 0. Both are below 256, so the casts keep them.
     fn write_divisor(&mut self, row: usize, g: usize)
         requires row { row < 12 }
         requires small { g ≤ 255 }

@@ -1,4 +1,4 @@
-//! A leaf beside the problem that it refutes.
+//! A leaf beside its problem.
 ghost use Rattle.std.specs.Prelude.{◌≡◌, true};
 ghost use Rattle.problems.specs.View.{box_of, rows_of};
 ghost use Rattle.testers.specs.Leaf.{formed};
@@ -7,7 +7,7 @@ ghost use Rattle.testers.specs.Told.{leaf_in};
 use problems::problem::Problem;
 use testers::leaf::Leaf;
 
-/// A leaf that has the form of one of the problem.
+/// A problem, and a leaf of the form that a leaf of it has.
 #[derive(Clone, Copy)]
 pub(crate) struct Refutation<'a> {
     pub(crate) problem: &'a Problem,

@@ -34,6 +34,7 @@ pub(crate) fn run<T: Tester>(
     ensures same { T.meaning tester.new ≡ T.meaning tester.old }
 {
     let mut walk = Walk::begin(root, budget);
+    // The walk counts its boxes: a range would count them twice.
     while walk.boxes < budget {
         if let Some(verdict) = walk.step(tester, written, stack) {
             return walk.tell(written, verdict);

@@ -56,15 +56,13 @@ impl<'a> Walk<'a> {
         };
         written.write_leaf(&refutation);
         note(&mut self.used, self.root, &refutation);
-        match stack.pop() {
-            None => Some(Verdict::None(self.used)),
-            Some(split) => {
-                if let Some(half) = split.vars.above(split.cut) {
-                    let _ = self.at.put_vars(half);
-                }
-                None
-            }
+        let Some(split) = stack.pop() else {
+            return Some(Verdict::None(self.used));
+        };
+        if let Some(half) = split.vars.above(split.cut) {
+            let _ = self.at.put_vars(half);
         }
+        None
     }
 
     /// Tests the box that waits and does what the answer asks for: a verdict, or none where another box waits.

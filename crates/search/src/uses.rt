@@ -26,7 +26,7 @@ impl Sides {
     };
 }
 
-/// The ends of both.
+/// The ends that both have.
 impl BitAnd for Sides {
     type Output = Sides;
 
@@ -40,7 +40,7 @@ impl BitAnd for Sides {
     }
 }
 
-/// The ends of either.
+/// The ends that at least one of the two has.
 impl BitOr for Sides {
     type Output = Sides;
 
@@ -55,6 +55,7 @@ impl BitOr for Sides {
 }
 
 /// For each variable and each row, which of its ends is used.
+// Fixed tables: nothing here takes the heap.
 #[derive(Clone, Copy, PartialEq, Eq, Debug)]
 pub struct Uses {
     pub vars: [Sides; MOST],
@@ -62,7 +63,7 @@ pub struct Uses {
 }
 
 impl Uses {
-    /// No end.
+    /// No end: a derived `Default` has no contract.
     pub fn none() -> Uses
         ensures { uses_of result ≡ unused }
     {

@@ -8,8 +8,9 @@ use super::record::Record;
 use super::uses::Uses;
 use problems::problem::Problem;
 
-/// The whole box, the box that waits, and what has been told so far. The record and the stack stand beside it:
-/// what a lent slice ends with is known only while one struct lies round it.
+/// The whole box, the box that waits, and what has been told so far.
+// The record and the stack are not fields: when a struct that lends a slice lies in another, nothing tells the owner
+// what the slice ends with.
 #[derive(Clone, Copy)]
 pub(crate) struct Walk<'a> {
     pub(crate) root: &'a Problem,

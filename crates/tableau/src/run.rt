@@ -2,7 +2,7 @@
 use problems::quantity::Side;
 
 /// A basic quantity outside its ends: the place of its line, its number, and the end that it violates.
-#[derive(Clone, Copy)]
+#[derive(Clone, Copy, PartialEq, Eq, Debug)]
 pub struct Violation {
     pub place: usize,
     pub basic: usize,
@@ -10,16 +10,17 @@ pub struct Violation {
 }
 
 /// What one look at the tableau finds: every quantity within its ends, one that none can help, or two to exchange.
-/// Three outcomes, of which none is a failure.
-#[derive(Clone, Copy)]
+// Not an Option or a Result: none of the three is a failure.
+#[derive(Clone, Copy, PartialEq, Eq, Debug)]
 pub enum Step {
     Standing,
     Stuck(Violation),
     Turn(Violation, usize),
 }
 
-/// How a run of pivots stops: in one of three ways, and giving way is an answer like the others.
-#[derive(Clone, Copy)]
+/// How a run of pivots stops.
+// Not an Option or a Result: none of the three is a failure.
+#[derive(Clone, Copy, PartialEq, Eq, Debug)]
 pub enum Stop {
     Stands,
     Fails(Violation),

@@ -29,7 +29,7 @@ pub fn all_fixed(problem: &Problem) -> bool
     problem.vars().iter().all(|s| is_fixed(*s))
 }
 
-// The lower end of a variable, and 0 past the last one.
+// The lower end of variable v, and 0 past the last one.
 fn lower_at(vars: &[Span], v: usize) -> i64
     ensures { result ≡ slice_index_or (lowers vars.now) v (pos 0) }
 {

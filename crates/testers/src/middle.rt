@@ -10,8 +10,8 @@ ghost use Rattle.problems.specs.View.{box_of};
 use problems::problem::Problem;
 use problems::quantity::Span;
 
-// The three functions below ask for ends in order and in range: the table that the spans stand in
-// carries that, and a span alone does not.
+// A span's fields are public and a caller may hand in ends that cross, so its type cannot carry that they are
+// in order; the table's type does, and the three functions below ask for it.
 
 // How far apart the ends are.
 fn size_of(s: Span) -> i64
@@ -36,6 +36,7 @@ fn widest_of(vars: &[Span]) -> usize
     ensures within { result < length vars.now }
     ensures value { split result (int_div_euclid ((slice_index_or vars.now result nowhere).lower +ℤ (slice_index_or vars.now result nowhere).upper) (pos 2)) ≡ middle_split vars.now }
 {
+    // A loop: `max_by_key` gives the last of several, and here the first is wanted.
     let mut best = 0;
     for (i, s) in vars.iter().enumerate() {
         if size_of(vars[best]) < size_of(*s) {

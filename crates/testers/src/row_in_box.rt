@@ -10,7 +10,7 @@ ghost use Rattle.problems.specs.Whole.{all_within};
 use problems::problem::Problem;
 use problems::quantity::{QUANTITIES, RowEnds, Span};
 
-/// A row, counted from 0, with a coefficient for each variable and its own ends.
+/// A row's number, counted from 0, its coefficients, the ends of the variables that they belong to, and its own ends.
 #[derive(Clone, Copy)]
 pub struct RowInBox<'a> {
     pub number: usize,
@@ -98,6 +98,7 @@ impl<'a> RowInBox<'a> {
         ensures { result ≡ row_multipliers z self.now.coefs.now self.now.number }
     {
         let mut all = [0; QUANTITIES];
+        // No lemma tells what a `zip` over `iter_mut` has written, so the table is written by its index.
         for (j, a) in self.coefs.iter().enumerate() {
             all[j] = -(z * *a);
         }
@@ -111,11 +112,6 @@ mod tests {
     use super::*;
 
     const VARS: [Span; 2] = [Span { lower: 1, upper: 5 }, Span { lower: 0, upper: 1 }];
-
-    const FREE: RowEnds = RowEnds {
-        lower: None,
-        upper: None,
-    };
 
     #[test]
     fn a_row_above_its_upper_end_has_the_multiplier_one(rt: HostRuntime) {
@@ -151,7 +147,7 @@ mod tests {
             number: 1,
             coefs: &[2, -3],
             vars: &VARS,
-            ends: FREE,
+            ends: RowEnds::FREE,
         };
         let all = row.multipliers(1);
         assert!(rt; all[0] == -2);

@@ -10,8 +10,8 @@ use super::stop::Stop;
 use search::open_split::OpenSplit;
 
 /// The answer of the call. What is lent for a search has room for the largest budget.
-// Two buffers and not one struct: the answer keeps the record and not the path, and no proof is made of a
-// struct of two `&mut` of which one goes on.
+// Two buffers and not one struct: the answer keeps the record and not the path, and the check refuses a
+// struct of two `&mut` of which the result keeps one.
 pub(crate) fn answer<'a>(
     desk: &mut Desk,
     call: &Call,

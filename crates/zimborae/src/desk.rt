@@ -24,7 +24,7 @@ pub struct Desk {
     problem: Option<Problem>,
 }
 
-// As many boxes as the budget can mean.
+// As many boxes as the budget can mean; the cast keeps what is clamped.
 fn boxes_of(budget: i64) -> usize
     ensures value { result ≡ lent_for budget }
 {

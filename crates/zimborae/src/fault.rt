@@ -15,7 +15,7 @@ pub enum Fault<'a> {
     Stopped(Stop),
 }
 
-// Written out, since a contract names the case that `?` makes.
+// Written by hand: a derived `From` has no contract, and the contract of `answer_line` tells which case `?` makes.
 impl<'a> From<Stop> for Fault<'a> {
     ghost from_gives = { λ e r. r ≡ Stopped e };
 

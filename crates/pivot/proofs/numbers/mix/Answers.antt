@@ -1,10 +1,9 @@
-use Rattle.std.proofs.Common.{◌+◌, ◌<◌, ◌≤◌, get_or, drop, pos, ◌+ℤ◌, ◌*ℤ◌, nat_abs, sym, refl, ap, ◌∙◌, arith, w64, to_z, of_z}
+use Rattle.std.proofs.Common.{◌+◌, ◌<◌, ◌≤◌, get_or, pos, ◌+ℤ◌, ◌*ℤ◌, nat_abs, refl, ◌∙◌, arith, w64}
 use Rattle.std.proofs.lemmas.Int.{to_z-of_z}
-use Rattle.std.proofs.lemmas.List.{drop_all, drop-set-lt}
-use Rattle.problems.specs.Rows.{add, scale}
+use Rattle.std.proofs.lemmas.List.{drop-set-lt}
 use Rattle.testers.proofs.Products.{fits}
 use Rattle.pivot.proofs.Casts.{mul_fits, mixed, mixed_small, mixed_back}
-use Rattle.pivot.proofs.Walks.{mix_next, done, within_at, within_from, within_next}
+use Rattle.pivot.proofs.Walks.{mix_next, within_at, within_from, within_next}
 use Rattle.pivot.proofs.numbers.mix.Goals as goal
 
 pub overflow_mul-x : goal.overflow_mul-x
@@ -44,13 +43,3 @@ loop-i-preserved c =
       mix_next c.args.p c.args.c row t i _ refl (omega arith) (omega (arith, c.requires.same)) ∙ s,
       rw (drop-set-lt (i + 1) row i (c.args.p *ℤ x +ℤ c.args.c *ℤ y) l) (within_next 1000000000 row i c.loop-i.invariant.1),
     )
-
-pub returns : goal.returns
-returns c =
-    let ep = to_z-of_z w64 c.args.p c.ranges.p in
-    let ec = to_z-of_z w64 c.args.c c.ranges.c in
-    let p = to_z w64 (of_z w64 c.args.p) in
-    let k = to_z w64 (of_z w64 c.args.c) in
-    sym (done c.loop-i.row (add (scale p (drop c.loop-i.i c.loop-i.row)) (scale k (drop c.loop-i.i c.args.t.now))) c.loop-i.i (omega arith)
-    (simp (drop_all c.loop-i.i c.loop-i.row (omega arith), drop_all c.loop-i.i c.args.t.now (omega (arith, c.requires.same)))))
-    ∙ c.loop-i.invariant.0 ∙ ap (λ z. add (scale z c.args.row.now) (scale k c.args.t.now)) ep ∙ ap (λ z. add (scale c.args.p c.args.row.now) (scale z c.args.t.now)) ec

@@ -1,12 +1,11 @@
-use Rattle.std.proofs.Common.{◌≡◌, ℕ, ◌+◌, ◌<◌, List, [], map, length, get_or, take, ℤ, sym, ap, ◌∙◌, subst, arith, length-set}
-use Rattle.std.proofs.lemmas.List.{take_at, take_all}
+use Rattle.std.proofs.Common.{◌≡◌, ℕ, ◌+◌, ◌<◌, List, [], length, get_or, ℤ, sym, ap, ◌∙◌, subst, arith, length-set}
 use Rattle.problems.specs.Whole.{all_within}
 use Rattle.problems.specs.View.{box_of, rows_of}
 use Rattle.problems.proofs.Views.{proper, row_of}
 use Rattle.tableau.specs.declared.line.Line.{Line}
 use Rattle.tableau.specs.Lines.{start_line}
-use Rattle.pivot.specs.Shapes.{seen, LineOk, LinesOk}
-use Rattle.pivot.proofs.Begins.{start_next, start_end, start_ok, within_more}
+use Rattle.pivot.specs.Shapes.{seen, LineOk}
+use Rattle.pivot.proofs.Begins.{start_next, start_ok, within_more}
 use Rattle.pivot.proofs.start.first_lines.Goals as goal
 
 pub first_line-requires : goal.first_line-requires
@@ -38,17 +37,3 @@ loop-i-preserved c =
     let l : i < length c.loop-i.line-items = omega (arith, c.loop-i.invariant.0, c.rows-m.ensures.value) in
     let w = line_is k m c.rows-m.result i c.coefs.result.now (get_or (rows_of p) i []) c.first_line.result c.rows-m.ensures.value c.coefs.ensures (ap (λ (n : ℕ). n + m) (row_of p i h).0) c.first_line.ensures.value c.first_line.ensures.ok in
     (simp length-set c.loop-i.invariant.0, start_next k m (rows_of p) c.loop-i.line-items i c.first_line.result l h w.0 ∙ c.loop-i.invariant.1, start_ok k c.loop-i.line-items i c.first_line.result l c.loop-i.invariant.2 w.1)
-
-pub returns : goal.returns
-returns c =
-    let p = c.args.problem.now in
-    let i = c.loop-i.i in
-    let m = length (rows_of p) in
-    let k = length (box_of p).vars + m in
-    let made = c.loop-i.line-items in
-    let e : i ≡ m = omega (arith, c.rows-m.ensures.value) in
-    let all : made ≡ take m made = sym (take_all m made (omega (arith, c.loop-i.invariant.0))) in
-    record {
-      value = ap (map (seen k)) (take_at made _ m c.loop-i.invariant.0 ∙ all) ∙ sym (start_end k m (rows_of p) made i (omega arith) (omega arith)) ∙ c.loop-i.invariant.1;
-      ok = subst (LinesOk k) (sym (take_at made _ m c.loop-i.invariant.0 ∙ all)) (subst (λ (j : ℕ). LinesOk k (take j made)) e c.loop-i.invariant.2);
-    }

@@ -9,8 +9,8 @@ use Rattle.search.specs.Walk.{Splits, stand_of}
 use Rattle.search.proofs.Walks.{half_is, half_there, half_put, top_holds, last_leaf, last_moved, next_leaf, next_moved}
 use Rattle.search.proofs.walk.Walk.refute.Goals as goal
 
-pub returns-in-None : goal.returns-in-None
-returns-in-None c =
+pub returns-in_default : goal.returns-in_default
+returns-in_default c =
     let root = c.args.self.now.root.now in
     let r = c.args.written.now in
     let w = stand_of c.args.self.now r in
@@ -18,7 +18,7 @@ returns-in-None c =
     let s = c.args.stack.now in
     let st = c.pop.new.self in
     let l = leaf_in w.at.ends.vars.n w.at.ends.m c.args.leaf.now in
-    let p = c.in-None.ensures.after in
+    let p = c.in_default.ensures.after in
     let wrote = c.write_leaf.ensures.after in
     let short : length (leaf_bytes l) ≤ 100 = omega (arith, wrote.len, c.write_leaf.ensures.short) in
     let room = c.requires.going.room in
@@ -72,10 +72,10 @@ returns-in-Some-above c =
     }
 
 -- an open split has its upper half
-pub returns-in_default : goal.returns-in_default
-returns-in_default c =
+pub returns-in_default-above : goal.returns-in_default-above
+returns-in_default-above c =
     let st = c.args.stack.now in
     let o = c.in-Some.split in
     let p = c.in-Some.ensures.after in
     let t = top_holds (Splits c.args.self.now.root.now.ends.vars.n) st.slots.now c.pop.new.self.slots.now st.len c.pop.new.self.len _ o p.0 st.within p.2 p.1 p.3 c.requires.going.ready.each in
-    half_there c.above.result (splits o.cut.0 o.cut.1 (vars_in o.vars)) (high o.cut.0 o.cut.1 (vars_in o.vars)) c.in_default.is t.1 c.above.ensures
+    half_there c.above.result (splits o.cut.0 o.cut.1 (vars_in o.vars)) (high o.cut.0 o.cut.1 (vars_in o.vars)) c.in_default-above.is t.1 c.above.ensures
