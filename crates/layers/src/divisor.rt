@@ -28,7 +28,8 @@ fn free_size(a: i64, s: Span) -> u64
     if is_fixed(s) { 0 } else { a.unsigned_abs() }
 }
 
-// What a fixed variable adds to the row; 0 for an unfixed one.
+// What a fixed variable adds to the row; 0 for an unfixed one. That its ends are in range is asked for: a span's
+// fields are public, so its type cannot carry it.
 fn fixed_term(a: i64, s: Span) -> i64
     requires coefficient { unsigned_abs a ≤ 100 }
     requires proper { span_proper s ≡ true }

@@ -12,6 +12,7 @@ use super::start::NO_LINE;
 use problems::quantity::MOST;
 use tableau::line::Line;
 
+// A quantity is a bare number: what bounds it is the board that it goes with, so each function asks for it.
 impl Board<'_> {
     // The line's equation as that of the quantity q.
     fn turn(&self, line: &Line, q: usize) -> Line
@@ -20,6 +21,7 @@ impl Board<'_> {
         ensures value { seen (length self.now.values.now) result ≡ turned q (seen (length self.now.values.now) line.now) }
         ensures ok { LineOk (length self.now.values.now) result }
     {
+        // `Board::refute` turns signs too, by another test: what they share is `negate`.
         let mut nums = line.nums;
         if nums[q] > 0 {
             negate(&mut nums[0..self.values.len()]);

@@ -71,7 +71,7 @@ impl Board<'_> {
         ensures left { LeftAt (length self.new.lines.now) result (shown (length self.old.values.now) self.new.values.now self.new.lines.now) (runs limit self.old.ends.now (length self.old.values.now) (shown (length self.old.values.now) self.old.values.now self.old.lines.now)).tableau }
         ensures long { length self.new.values.now ≡ length self.old.values.now }
     {
-        // It looks once more than it pivots, so what is left is counted and no range is gone through.
+        // It looks once more than it pivots: a range of looks would need an answer behind it that is never reached.
         let mut rest = limit;
         loop {
             match self.look() {

@@ -18,7 +18,8 @@ pub const MOST_BOXES: i64 = 10_000;
 /// The record has room for so many bytes a box.
 pub const BOX_BYTES: usize = 100;
 
-// Refuses where a fault is found. Book has its own, of a place in a list; this one is told a place as it is.
+// Refuses where a fault is found. Book has its own, whose place is a count; here the place may be the budget as it was
+// told, below 0 too.
 fn refuse_if(fault: bool, why: Refusal, place: i64) -> Result<(), Refused>
     ensures { result ≡ cond fault (Err (record { why = why; place = place })) (Ok tt) }
 {

@@ -31,6 +31,7 @@ impl<'a> Walk<'a> {
         written.write_split(cut);
         let _ = stack.push(OpenSplit { cut, vars });
         self.deepest = self.deepest.max(stack.len());
+        // What is split has both halves, so there is always one, here and in `refute`.
         if let Some(half) = vars.below(cut) {
             let _ = self.at.put_vars(half);
         }

@@ -10,7 +10,7 @@ pub struct Violation {
 }
 
 /// What one look at the tableau finds: every quantity within its ends, one that none can help, or two to exchange.
-// Not an Option or a Result: none of the three is a failure.
+// Three ways to go on: not one value or its lack, and not a value or an error.
 #[derive(Clone, Copy, PartialEq, Eq, Debug)]
 pub enum Step {
     Standing,
@@ -19,7 +19,7 @@ pub enum Step {
 }
 
 /// How a run of pivots stops.
-// Not an Option or a Result: none of the three is a failure.
+// Three ways to go on: not one value or its lack, and not a value or an error.
 #[derive(Clone, Copy, PartialEq, Eq, Debug)]
 pub enum Stop {
     Stands,

@@ -7,7 +7,7 @@ pub fn gcd(a: u64, b: u64) -> u64
     ensures value { result ≡ euclid a b }
     ensures greatest { GreatestCommon a b result }
 {
-    // Each step makes the second number smaller.
+    // Euclid's steps count no index: each makes the second number smaller.
     let mut x = a;
     let mut y = b;
     while y != 0 {

@@ -36,7 +36,8 @@ fn widest_of(vars: &[Span]) -> usize
     ensures within { result < length vars.now }
     ensures value { split result (int_div_euclid ((slice_index_or vars.now result nowhere).lower +ℤ (slice_index_or vars.now result nowhere).upper) (pos 2)) ≡ middle_split vars.now }
 {
-    // A loop: `max_by_key` gives the last of several, and here the first is wanted.
+    // A loop: `max_by_key` gives the last of several, and here the first is wanted; going round backward would say it
+    // less plainly.
     let mut best = 0;
     for (i, s) in vars.iter().enumerate() {
         if size_of(vars[best]) < size_of(*s) {

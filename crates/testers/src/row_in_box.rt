@@ -25,7 +25,8 @@ pub struct RowInBox<'a> {
     ghost proper: { ends_proper ends ≡ true },
 }
 
-// The least and the greatest of the coefficient's products with the variable.
+// The least and the greatest of the coefficient's products with the variable. That its ends are in order is asked for:
+// a span's fields are public, so its type cannot carry it.
 fn products(a: i64, s: Span) -> Span
     requires coefficient { unsigned_abs a ≤ 100 }
     requires proper { span_proper s ≡ true }

@@ -66,11 +66,17 @@ fn read_row<'a>(heap: Global, words: &[&'a str]) -> Result<Call, Why<'a>> {
     Ok(Call::Row { coefs, ends })
 }
 
-fn read_open<'a>(words: &[&'a str]) -> Result<Call, Why<'a>> {
+// Refuses a word behind the last.
+fn end_here<'a>(words: &[&'a str]) -> Result<(), Why<'a>> {
     match words {
-        [] => Ok(Call::Open),
+        [] => Ok(()),
         [word, ..] => Err(Why::TooMany(*word)),
     }
+}
+
+fn read_open<'a>(words: &[&'a str]) -> Result<Call, Why<'a>> {
+    end_here(words)?;
+    Ok(Call::Open)
 }
 
 fn read_ask<'a>(words: &[&'a str]) -> Result<Call, Why<'a>> {
@@ -81,9 +87,7 @@ fn read_ask<'a>(words: &[&'a str]) -> Result<Call, Why<'a>> {
         return Err(Why::NoTester(*tester));
     }
     let budget = number(*budget)?;
-    if let [word, ..] = rest {
-        return Err(Why::TooMany(*word));
-    }
+    end_here(rest)?;
     Ok(Call::Ask {
         tester: Pile::Halving,
         budget,

@@ -15,7 +15,7 @@ fn digit(value: u8) -> char
     char::from_digit(u32::from(value), 16).unwrap()
 }
 
-// The two digits of a byte, which a contract tells; what `{byte:02x}` pads, none does.
+// The two digits of a byte. A contract tells them; none tells what `{byte:02x}` writes.
 fn digits(byte: u8) -> (char, char)
     ensures first { result.0 ≡ digit_char (byte / 16) }
     ensures second { result.1 ≡ digit_char (byte % 16) }
