@@ -1,4 +1,4 @@
-use Rattle.std.proofs.Common.{◌≡◌, ℕ, ◌+◌, ◌-◌, ◌≤◌, List, ◌++◌, map, length, take, replicate, ℤ, pos, sym, refl, ap, ◌∙◌, subst, arith, rules}
+use Rattle.std.proofs.Common.{◌≡◌, ℕ, ◌+◌, ◌-◌, ◌≤◌, List, ◌++◌, map, length, take, replicate, ℤ, pos, sym, refl, ap, ◌∙◌, subst, arith}
 use Rattle.std.proofs.lemmas.List.{length-take, take_all}
 use Rattle.problems.specs.declared.quantity.Span.{Span}
 use Rattle.problems.specs.declared.problem.Problem.{Problem}
@@ -18,18 +18,6 @@ lowers_fit ss h = ap (λ (x : List ℤ). x ++ replicate (24 - length ss) (pos 0)
 
 few : (p : Problem) (n m : ℕ) → n ≡ length (box_of p).vars → m ≡ length (rows_of p) → n + m ≤ 24
 few p n m e f = let q = proper p in omega (arith, q.few_variables, q.few_rows)
-
-pub overflow_add-k : goal.overflow_add-k
-overflow_add-k c = let h = few c.args.problem.now c.variables.result c.rows-m.result c.variables.ensures.value c.rows-m.ensures.value in search rules
-
-pub slice_bounds-lines-end : goal.slice_bounds-lines-end
-slice_bounds-lines-end c = let h : c.rows-m.result ≤ 12 = omega (arith, c.rows-m.ensures.value, (proper c.args.problem.now).few_rows) in search rules
-
-pub slice_bounds-values-end : goal.slice_bounds-values-end
-slice_bounds-values-end c = let h = few c.args.problem.now c.variables.result c.rows-m.result c.variables.ensures.value c.rows-m.ensures.value in search rules
-
-pub slice_bounds-board-end : goal.slice_bounds-board-end
-slice_bounds-board-end c = let h = few c.args.problem.now c.variables.result c.rows-m.result c.variables.ensures.value c.rows-m.ensures.value in search rules
 
 pub invariant_of-board : goal.invariant_of-board
 invariant_of-board c =

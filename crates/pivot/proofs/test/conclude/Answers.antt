@@ -10,9 +10,6 @@ use Rattle.tableau.proofs.Solves.{run_solved, dens}
 use Rattle.pivot.proofs.Concludes.{failed}
 use Rattle.pivot.proofs.test.conclude.Goals as goal
 
-pub refute-requires : goal.refute-requires
-refute-requires c = c.in-Fails.ensures.left.1
-
 pub settle-requires : goal.settle-requires
 settle-requires c =
     let p = proper c.args.problem.now in
