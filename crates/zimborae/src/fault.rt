@@ -1,5 +1,5 @@
 //! Why a line is not answered: it is no call, or its call stops.
-ghost use Rattle.zimborae.specs.declared.fault.Fault.TheVariants.{Stopped};
+ghost use Rattle.zimborae.specs.declared.fault.Fault.TheVariants.{Stopped, Unread};
 ghost use Rattle.std.specs.Prelude.{◌≡◌};
 
 use super::stop::Stop;
@@ -15,7 +15,15 @@ pub enum Fault<'a> {
     Stopped(Stop),
 }
 
-// Written by hand: a derived `From` has no contract, and the contract of `answer_line` tells which case `?` makes.
+// Both conversions are written by hand: a derived `From` has no contract, and these tell which case `?` makes.
+impl<'a> From<Why<'a>> for Fault<'a> {
+    ghost from_gives = { λ e r. r ≡ Unread e };
+
+    fn from(why: Why<'a>) -> Fault<'a> {
+        Fault::Unread(why)
+    }
+}
+
 impl<'a> From<Stop> for Fault<'a> {
     ghost from_gives = { λ e r. r ≡ Stopped e };
 

@@ -47,7 +47,7 @@ fn answer_line<'a>(
     requires deep { 10000 ≤ length path.old }
     ensures same { KeptUnlessRead result (standing desk.old) (standing desk.new) }
 {
-    let call = read_bytes(heap, line).map_err(Fault::Unread)?;
+    let call = read_bytes(heap, line)?;
     Ok(answer(desk, &call, bytes, path)?)
 }
 
