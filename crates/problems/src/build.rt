@@ -76,13 +76,8 @@ impl Ends {
         ensures rows { take self.new.m self.new.rows ≡ take self.old.m self.old.rows ++ (ends ∷ []) }
         ensures count { self.new.m ≡ self.old.m + 1 }
     {
-        let mut rows = self.rows;
-        rows[self.m] = ends;
-        *self = Ends {
-            vars: self.vars,
-            rows,
-            m: self.m + 1,
-        };
+        self.rows[self.m] = ends;
+        self.m += 1;
     }
 }
 
