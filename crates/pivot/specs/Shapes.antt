@@ -10,7 +10,7 @@ use Rattle.tableau.specs.declared.run.Step.{Step}
 use Rattle.tableau.specs.declared.run.Step.TheVariants.{Standing, Stuck, Turn}
 use Rattle.tableau.specs.declared.run.Stop.{Stop}
 use Rattle.tableau.specs.declared.run.Stop.TheVariants.{Stands, Fails, GaveWay}
-use Rattle.tableau.specs.Tableau.{Tableau}
+use Rattle.tableau.specs.Tableau.{Tableau, small_lines}
 
 -- a leaf over an upper end has the line's signs turned
 abbrev pub turns_signs : Side → Bool
@@ -45,11 +45,11 @@ abbrev pub EndsOk : List RowEnds → Type 0
 EndsOk [] = Unit {0}
 EndsOk (e ∷ es) = (in_reach e.lower ≡ true) × (in_reach e.upper ≡ true) × EndsOk es
 
--- unless it gave way, a run leaves the last tableau behind, and a line that fails is one of its m lines
+-- a run leaves the last tableau behind, unless a number of that is too large, and a line that fails is one of its m lines
 abbrev pub LeftAt : ℕ → Stop → Tableau → Tableau → Type 0
 LeftAt m Stands t last = t ≡ last
 LeftAt m (Fails f) t last = (t ≡ last) × (f.place < m)
-LeftAt m GaveWay t last = Unit {0}
+LeftAt m GaveWay t last = small_lines last.lines ≡ true → t ≡ last
 
 -- the choice names a line and a quantity
 abbrev pub InsideStep : ℕ → ℕ → Step → Type 0

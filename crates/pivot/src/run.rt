@@ -6,6 +6,7 @@ ghost use Rattle.tableau.specs.Tableau.{end_value, look as looks, moved, pivoted
 
 use super::board::Board;
 use problems::quantity::{RowEnds, Side};
+use std::mem;
 use tableau::run::{Step, Stop, Violation};
 
 // The violated end, at which a quantity leaves.
@@ -45,7 +46,7 @@ impl Board<'_> {
             .map_or(Step::Stuck(f), |q| Step::Turn(f, q))
     }
 
-    // Takes q in for the quantity that leaves; false, and the board stays, where a number would be too large.
+    // Takes q in for the quantity that leaves; false, and the board has no line left, where a number would be too large.
     fn pivot(&mut self, f: Violation, q: usize) -> bool
         requires standing { f.place < length self.old.lines.now }
         requires leaves { f.basic < length self.old.values.now }
@@ -55,17 +56,19 @@ impl Board<'_> {
         ensures long { length self.new.values.now ≡ length self.old.values.now }
         ensures ends { self.new.ends.now ≡ self.old.ends.now }
     {
-        let all = self.exchanged(f.place, q);
-        let next = &all[..self.lines.len()];
-        if !self.are_small(next) {
+        let lines = mem::take(&mut self.lines);
+        let t = self.turn(&lines[f.place], q);
+        self.exchange(&mut *lines, f.place, &t, q);
+        if !self.are_small(lines) {
             return false;
         }
-        self.lines.copy_from_slice(next);
+        self.lines = lines;
         self.shift(f, q);
         true
     }
 
-    // Pivots, at most so often, until no quantity is outside its ends or one is that none can help.
+    // Pivots, at most so often, until no quantity is outside its ends or one is that none can help. Where a number would
+    // be too large, no line is left.
     pub(crate) fn run(&mut self, limit: u32) -> Stop
         ensures stop { result ≡ (runs limit self.old.ends.now (length self.old.values.now) (shown (length self.old.values.now) self.old.values.now self.old.lines.now)).stop }
         ensures left { LeftAt (length self.new.lines.now) result (shown (length self.old.values.now) self.new.values.now self.new.lines.now) (runs limit self.old.ends.now (length self.old.values.now) (shown (length self.old.values.now) self.old.values.now self.old.lines.now)).tableau }

@@ -13,7 +13,7 @@ use problems::table::padded;
 use tableau::line::Line;
 
 // What stands past the last line.
-pub(crate) const NO_LINE: Line = Line {
+const NO_LINE: Line = Line {
     basic: 0,
     nums: [0; QUANTITIES],
 };

@@ -1,16 +1,20 @@
-use Rattle.std.proofs.Common.{◌≡◌, ◌+◌, ◌-◌, ◌≤◌, List, ◌++◌, map, length, take, set, replicate, ap, ◌∙◌, arith, rules}
+use Rattle.std.proofs.Common.{◌≡◌, ℕ, ◌+◌, ◌-◌, ◌<◌, ◌≤◌, List, ◌++◌, map, length, get_or, take, set, replicate, ap, ◌∙◌, arith, rules}
 use Rattle.std.proofs.lemmas.List.{length-append, length-map, take_at}
 use Rattle.std.proofs.lemmas.Slice.{take-put_mid}
 use Rattle.problems.specs.declared.quantity.RowEnds.{RowEnds}
+use Rattle.problems.specs.declared.quantity.Span.{Span}
 use Rattle.problems.specs.Box.{no_ends, nowhere}
 use Rattle.tableau.specs.Tableau.{span_ends}
 use Rattle.pivot.proofs.Begins.{table_next, table_end}
 use Rattle.pivot.proofs.start.all_ends.Goals as goal
 
+-- the ends of one variable more are written
+written : (ss : List Span) (all : List RowEnds) (v : ℕ) (e : RowEnds) → all ≡ map span_ends (take v ss) ++ replicate (24 - v) no_ends → v < length ss → length ss ≤ 24
+    → e ≡ span_ends (get_or ss v nowhere) → set all v e ≡ map span_ends (take (v + 1) ss) ++ replicate (24 - (v + 1)) no_ends
+written ss all v e i h f p = ap (λ t. set t v e) i ∙ table_next span_ends no_ends 24 ss v e nowhere h f p
+
 pub loop-v-preserved : goal.loop-v-preserved
-loop-v-preserved c =
-    ap (λ t. set t c.loop-v.v c.from.result) c.loop-v.invariant
-    ∙ table_next span_ends no_ends 24 c.args.vars.now c.loop-v.v c.from.result nowhere (omega arith) (omega (arith, c.requires.variables)) (search rules)
+loop-v-preserved c = written c.args.vars.now c.loop-v.all c.loop-v.v _ c.loop-v.invariant (omega arith) (omega (arith, c.requires.variables)) (search rules)
 
 pub returns : goal.returns
 returns c =
