@@ -52,7 +52,7 @@ within_append n [] ys h k = k
 within_append n (x ∷ xs) ys h k = let w = and_parts (within n x) (all_within n xs) h in and_from _ _ w.0 (within_append n xs ys w.1 k)
 
 -- the coefficients, with 0 past the last one
-padded_proper : (av : List ℤ) → length av ≤ 12 → all_within 100 av ≡ true → row_proper 12 (av ++ replicate (12 - length av) (pos 0)) ≡ true
+pub padded_proper : (av : List ℤ) → length av ≤ 12 → all_within 100 av ≡ true → row_proper 12 (av ++ replicate (12 - length av) (pos 0)) ≡ true
 padded_proper av h k = and_from _ _ (eq-eqb _ _ (table_long av 12 (pos 0) h)) (within_append 100 av _ k (zeros_within (12 - length av)))
 
 pub few_coefs : (p : Problem) (av : List ℤ) (e : RowEnds) → Addable av e p → length av ≤ 12

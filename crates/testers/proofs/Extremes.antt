@@ -21,8 +21,9 @@ pub fewest_lower : (a : ℤ) (s : Span) → pos 0 ≤ℤ a → a *ℤ s.lower �
 fewest_lower (pos n) s h = refl
 fewest_lower (negsuc n) s h = absurd (omega (arith, ints))
 
-pub most_lower : (a : ℤ) (s : Span) → a <ℤ pos 0 → a *ℤ s.lower ≡ most a s
-most_lower (pos n) s h = absurd (omega (arith, ints))
+pub most_lower : (a : ℤ) (s : Span) → a ≤ℤ pos 0 → a *ℤ s.lower ≡ most a s
+most_lower (pos zero) s h = zero-*ℤ s.lower
+most_lower (pos (suc n)) s h = absurd (omega (arith, ints))
 most_lower (negsuc n) s h = refl
 
 pub most_upper : (a : ℤ) (s : Span) → pos 0 ≤ℤ a → a *ℤ s.upper ≡ most a s

@@ -1,5 +1,6 @@
-use Rattle.std.proofs.Common.{pos, ◌∙◌, w64}
+use Rattle.std.proofs.Common.{pos, ◌∙◌, arith, w64}
 use Rattle.std.proofs.lemmas.Int.{to_z-of_z}
+use borrow.Author.Differences.{ints}
 use Rattle.problems.proofs.Tests.{lt_z_true, lt_z_false}
 use Rattle.problems.proofs.Propers.{span_from}
 use Rattle.testers.proofs.Products.{term_fits, term_back, term_small}
@@ -26,7 +27,7 @@ returns-then-a-lt0 c =
     let l = term_back a s.lower c.requires.coefficient h.1 in
     let u = term_back a s.upper c.requires.coefficient h.2 in
     let n = lt_z_true a (pos 0) (simp (to_z-of_z w64 a c.ranges.a) at c.if-a-lt0.true) in
-    record { least = u ∙ fewest_upper a s n; greatest = l ∙ most_lower a s n; small = (rw u (term_small a s.upper c.requires.coefficient h.2), rw l (term_small a s.lower c.requires.coefficient h.1)) }
+    record { least = u ∙ fewest_upper a s n; greatest = l ∙ most_lower a s (omega (arith, ints, n)); small = (rw u (term_small a s.upper c.requires.coefficient h.2), rw l (term_small a s.lower c.requires.coefficient h.1)) }
 
 pub returns-else-a-lt0 : goal.returns-else-a-lt0
 returns-else-a-lt0 c =
