@@ -1,6 +1,6 @@
 -- The first k numbers of a line, written as a part.
-use Rattle.std.proofs.Common.{◌≡◌, ℕ, zero, suc, ◌+◌, ◌-◌, ◌<◌, ◌≤◌, true, cond, eqb, List, [], ◌∷◌, ◌++◌, map, length, get_or, take, drop, set, ℤ, negsuc, sym, ap, ◌∙◌, subst, le_of_suc-le-suc, not-suc-le-zero, add-one, arith}
-use Rattle.std.proofs.lemmas.List.{take_at, length-append, length-drop, length-take-le, drop_more, take_more_set, append_assoc, append-nil, map-append, take_all, drop_all, drop-set-lt}
+use Rattle.std.proofs.Common.{◌≡◌, ℕ, zero, suc, ◌+◌, ◌-◌, ◌<◌, ◌≤◌, true, cond, eqb, List, [], ◌∷◌, ◌++◌, map, length, get_or, take, drop, set, ℤ, negsuc, sym, ap, ◌∙◌, subst, add-one, arith}
+use Rattle.std.proofs.lemmas.List.{take_at, length-append, length-drop, length-take-le, drop_more, take_more_set, append_assoc, map-append, drop-set-lt}
 use Rattle.problems.specs.Rows.{scale}
 use Rattle.problems.specs.Whole.{all_within}
 use Rattle.tableau.specs.declared.line.Line.{Line}
@@ -50,10 +50,6 @@ exchange_next place q k t ls j new d h n =
     ∙ ap (λ (y : Line). a ++ (y ∷ exchanged place q t (suc j) r)) n
     ∙ sym (ap (λ (m : List Line). a ++ exchanged place q t j (map f m)) (drop_more ls j d h))
 
-pub exchange_end : (place q k : ℕ) (t : Line) (ls : List Line) (j : ℕ) → length ls ≤ j
-    → map (seen k) (take j ls) ++ exchanged place q t j (map (seen k) (drop j ls)) ≡ map (seen k) ls
-exchange_end place q k t ls j h = rw (take_all j ls h, drop_all j ls h) (append-nil (map (seen k) ls))
-
 pub shaped_set : (k : ℕ) (ls : List Line) (j : ℕ) (new : Line) → AllShaped k ls → Shaped k new → AllShaped k (set ls j new)
 shaped_set k [] j new a s = a
 shaped_set k (l ∷ ls) zero new a s = (s, a.1)
@@ -66,11 +62,6 @@ ok_shaped k (l ∷ ls) o = (record { basic = o.0.basic; long = o.0.long }, ok_sh
 pub shaped_ok : (k : ℕ) (ls : List Line) → AllShaped k ls → small_lines (map (seen k) ls) ≡ true → LinesOk k ls
 shaped_ok k [] a s = tt
 shaped_ok k (l ∷ ls) a s = let e = and_parts _ _ s in (record { basic = a.0.basic; small = e.0; long = a.0.long }, shaped_ok k ls a.1 e.1)
-
-pub ok_from : (k : ℕ) (ls : List Line) (i : ℕ) (d : Line) → LinesOk k (drop i ls) → i < length ls → LineOk k (get_or ls i d)
-ok_from k [] i d o h = absurd (not-suc-le-zero h)
-ok_from k (l ∷ ls) zero d o h = o.0
-ok_from k (l ∷ ls) (suc i) d o h = ok_from k ls i d o (le_of_suc-le-suc h)
 
 ok_suc : (k : ℕ) (ls : List Line) (i : ℕ) → LinesOk k (drop i ls) → LinesOk k (drop (suc i) ls)
 ok_suc k [] i o = tt

@@ -1,6 +1,6 @@
 //! A run of pivots: one look at the tableau after the other, until no quantity is outside its ends, or one is that none
 //! can help, or the run gives way.
-ghost use Rattle.std.specs.Prelude.{◌≡◌, ◌<◌, true, length};
+ghost use Rattle.std.specs.Prelude.{◌≡◌, ◌<◌, true, false, [], length};
 ghost use Rattle.pivot.specs.Shapes.{InsideStep, LeftAt, shown};
 ghost use Rattle.tableau.specs.Tableau.{end_value, look as looks, moved, pivoted, run as runs, small_lines};
 
@@ -46,13 +46,15 @@ impl Board<'_> {
             .map_or(Step::Stuck(f), |q| Step::Turn(f, q))
     }
 
-    // Takes q in for the quantity that leaves; false, and the board has no line left, where a number would be too large.
+    // Takes q in for the quantity that leaves; false, and the board has no line left and its values stay, where a number
+    // would be too large.
     fn pivot(&mut self, f: Violation, q: usize) -> bool
         requires standing { f.place < length self.old.lines.now }
         requires leaves { f.basic < length self.old.values.now }
         requires enters { q < length self.old.values.now }
         ensures value { result ≡ small_lines (pivoted self.old.ends.now f q (shown (length self.old.values.now) self.old.values.now self.old.lines.now)).lines }
         ensures after { result ≡ true → shown (length self.old.values.now) self.new.values.now self.new.lines.now ≡ pivoted self.old.ends.now f q (shown (length self.old.values.now) self.old.values.now self.old.lines.now) }
+        ensures large { result ≡ false → (self.new.lines.now ≡ []) × (self.new.values.now ≡ self.old.values.now) }
         ensures long { length self.new.values.now ≡ length self.old.values.now }
         ensures ends { self.new.ends.now ≡ self.old.ends.now }
     {
